@@ -1,0 +1,124 @@
+-- The starred cases of document 01, "Worked passages", as one table. proofs/CasesHold.antt has its one theorem.
+-- Assumes nothing.
+use Prim.Native.Nat.{ℕ, zero, suc, _+_}
+use mathlib.Core.List.{List, [], _∷_, _++_, map}
+use Rattle.paper.specs.Frame.{Pair, Frame, Shape, encode, shape}
+use Rattle.paper.specs.Frame.Frame.{message, tick, register, unregister}
+use Rattle.paper.specs.Frame.Shape.{refused, accepted}
+use Rattle.paper.specs.Impact.{impactIn}
+use Rattle.paper.specs.Rank.{Line}
+use Rattle.paper.specs.Log.{Log, Call, fresh, stateLength, judge, after, departures, listed}
+
+pub data Case : Type 0 where
+  -- the counts of a message's terms; the impact of each
+  impacts : List ℕ → List ℕ → Case
+  -- a frame; its bytes
+  spelling : Frame → List ℕ → Case
+  -- bytes; their number by 1 to 6, 0 for a frame
+  judging : List ℕ → ℕ → Case
+  -- N, T and frames; after each its number, its departures, and serial and score of each entry of query 0's list
+  passage : ℕ → ℕ → List (List ℕ) → List (List ℕ) → Case
+
+-- ---- what the definitions give for a case
+
+-- pairs of the terms n, n + 1, .. with these counts
+abbrev pub numbered : ℕ → List ℕ → List Pair
+numbered n [] = []
+numbered n (f ∷ fs) = record { term = n; amount = f } ∷ numbered (suc n) fs
+
+abbrev pub impactsOf : List Pair → List ℕ
+impactsOf ps = map (λ p. impactIn ps (p .term)) ps
+
+abbrev pub numberOf : Shape → ℕ
+numberOf (refused r) = r
+numberOf (accepted f) = 0
+
+abbrev pub call : List ℕ → Call
+call bytes = record { bytes = bytes; state = stateLength; output = 0 }
+
+abbrev pub flat : List Line → List ℕ
+flat [] = []
+flat (l ∷ ls) = l .serial ∷ l .score ∷ flat ls
+
+-- query 0's list after a frame
+abbrev pub listAfter : Log → List ℕ
+listAfter log = flat (listed 0 log stateLength 0 0)
+
+abbrev pub run : Log → List (List ℕ) → List (List ℕ)
+run log [] = []
+run log (b ∷ bs) =
+    (judge 0 log (call b) ∷ departures 0 log (call b) ∷ listAfter (after 0 log (call b))) ∷ run (after 0 log (call b)) bs
+
+abbrev pub computed : Case → List (List ℕ)
+computed (impacts fs ws) = impactsOf (numbered 0 fs) ∷ []
+computed (spelling f bytes) = encode f ∷ (numberOf (shape bytes) ∷ []) ∷ []
+computed (judging bytes r) = (numberOf (shape bytes) ∷ []) ∷ []
+computed (passage N T frames told) = run (fresh N T) frames
+
+abbrev pub expected : Case → List (List ℕ)
+expected (impacts fs ws) = ws ∷ []
+expected (spelling f bytes) = bytes ∷ (0 ∷ []) ∷ []
+expected (judging bytes r) = (r ∷ []) ∷ []
+expected (passage N T frames told) = told
+
+-- ---- the table
+
+abbrev pub at : ℕ → ℕ → Pair
+at t n = record { term = t; amount = n }
+
+-- C5, and the frames of C9 and C10
+abbrev pub registered : Frame
+registered = register 0 0 2 (at 5 1 ∷ at 9 2 ∷ [])
+
+abbrev pub c9 : List (List ℕ)
+c9 = map encode (registered ∷ message 10 1 (at 5 1 ∷ []) ∷ message 20 2 (at 5 1 ∷ []) ∷ [])
+
+abbrev pub c10 : List (List ℕ)
+c10 =
+    map encode
+    (registered
+    ∷ message 10 1 (at 5 3 ∷ at 9 4 ∷ [])
+    ∷ message 20 2 (at 5 1 ∷ [])
+    ∷ message 30 3 (at 9 1 ∷ at 40 1 ∷ [])
+    ∷ message 40 4 (at 5 1 ∷ at 6 2 ∷ [])
+    ∷ tick 120
+    ∷ message 119 9 (at 5 1 ∷ [])
+    ∷ [])
+
+unfoldable pub table : List Case
+table =
+    -- C1
+    impacts (3 ∷ 4 ∷ []) (600 ∷ 800 ∷ [])
+    -- C2
+    ∷ impacts (1 ∷ 1 ∷ []) (707 ∷ 707 ∷ [])
+    ∷ impacts (1 ∷ 2 ∷ []) (447 ∷ 894 ∷ [])
+    ∷ impacts (255 ∷ []) (1000 ∷ [])
+    -- C3
+    ∷ impacts
+      (1 ∷ 255 ∷ 255 ∷ 255 ∷ 255 ∷ 255 ∷ 255 ∷ 255 ∷ 255 ∷ 255 ∷ 255 ∷ 255 ∷ 255 ∷ 255 ∷ 255 ∷ 255 ∷ [])
+      (1 ∷ 258 ∷ 258 ∷ 258 ∷ 258 ∷ 258 ∷ 258 ∷ 258 ∷ 258 ∷ 258 ∷ 258 ∷ 258 ∷ 258 ∷ 258 ∷ 258 ∷ 258 ∷ [])
+    -- C4
+    ∷ spelling (tick 120) (0x20 ∷ 0x00 ∷ 0x00 ∷ 0x07 ∷ 0x80 ∷ [])
+    ∷ judging (0x20 ∷ 0x00 ∷ 0x00 ∷ 0x07 ∷ 0x81 ∷ []) 4
+    ∷ judging (0x20 ∷ 0x00 ∷ 0x00 ∷ 0x07 ∷ []) 1
+    ∷ judging (0x20 ∷ 0x00 ∷ 0x00 ∷ 0x07 ∷ 0x80 ∷ 0x00 ∷ []) 3
+    -- C5
+    ∷ spelling registered (0x30 ∷ 0x00 ∷ 0x00 ∷ 0x00 ∷ 0x00 ∷ 0x09 ∷ 0x01 ∷ 0x44 ∷ 0x09 ∷ 0x20 ∷ [])
+    -- C6
+    ∷ spelling (message 20 2 (at 5 1 ∷ [])) (0x10 ∷ 0x00 ∷ 0x00 ∷ 0x01 ∷ 0x40 ∷ 0x00 ∷ 0x02 ∷ 0x00 ∷ 0x14 ∷ 0x04 ∷ [])
+    -- C7
+    ∷ spelling (unregister 0 0) (0x40 ∷ 0x00 ∷ 0x00 ∷ 0x00 ∷ 0x00 ∷ 0x00 ∷ [])
+    ∷ passage 3 100 (encode (unregister 0 0) ∷ []) ((10 ∷ 0 ∷ []) ∷ [])
+    -- C9
+    ∷ passage 3 100 c9 ((0 ∷ 0 ∷ []) ∷ (0 ∷ 0 ∷ 1 ∷ 1000 ∷ []) ∷ (0 ∷ 0 ∷ 2 ∷ 1000 ∷ 1 ∷ 1000 ∷ []) ∷ [])
+    -- C10
+    ∷ passage 3 100 c10
+      ((0 ∷ 0 ∷ [])
+      ∷ (0 ∷ 0 ∷ 1 ∷ 2200 ∷ [])
+      ∷ (0 ∷ 0 ∷ 1 ∷ 2200 ∷ 2 ∷ 1000 ∷ [])
+      ∷ (0 ∷ 0 ∷ 1 ∷ 2200 ∷ 3 ∷ 1414 ∷ [])
+      ∷ (0 ∷ 1 ∷ 3 ∷ 1414 ∷ 2 ∷ 1000 ∷ [])
+      ∷ (0 ∷ 1 ∷ 3 ∷ 1414 ∷ 4 ∷ 447 ∷ [])
+      ∷ (7 ∷ 0 ∷ 3 ∷ 1414 ∷ 4 ∷ 447 ∷ [])
+      ∷ [])
+    ∷ []

@@ -1,0 +1,10 @@
+pub mod Frame
+pub mod Write
+pub mod Window
+pub mod Impact
+pub mod Sort
+pub mod Rank
+pub mod Threshold
+pub mod Log
+pub mod Demand3
+pub mod Cases

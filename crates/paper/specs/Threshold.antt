@@ -1,0 +1,64 @@
+-- Thresholds and candidates, and when what is kept of a query is right.
+-- Document 01, "Thresholds"; demand 3. Assumes nothing.
+use Prim.Native.Nat.{ℕ, _+_, _*_, _≤_, _<_}
+use mathlib.Core.Path.{_≡_}
+use mathlib.Core.Bool.{Bool, false, cond, _||_}
+use mathlib.Core.List.{List, [], _∷_}
+use lib.ListN.{length, getD}
+use lib.Dec.{ltb}
+use Rattle.paper.specs.Frame.{Pair}
+use Rattle.paper.specs.Window.{Message}
+use Rattle.paper.specs.Impact.{top, impactIn}
+use Rattle.paper.specs.Rank.{Query, Entry, Line, ranking, lines, serials}
+
+-- "The threshold sum is the sum of weight × threshold."
+unfoldable pub thresholdSum : List Pair → List ℕ → ℕ
+thresholdSum [] hs = 0
+thresholdSum (q ∷ qs) [] = 0
+thresholdSum (q ∷ qs) (h ∷ hs) = q .amount * h + thresholdSum qs hs
+
+-- whether a message has "an impact strictly above the threshold in some query term"
+unfoldable pub exceeds : List Pair → List ℕ → List Pair → Bool
+exceeds [] hs ps = false
+exceeds (q ∷ qs) [] ps = false
+exceeds (q ∷ qs) (h ∷ hs) ps = ltb h (impactIn ps (q .term)) || exceeds qs hs ps
+
+-- "Candidates are the messages in force with an impact strictly above the threshold in some query term."
+unfoldable pub candidates : List Pair → List ℕ → List Message → List Message
+candidates qs hs [] = []
+candidates qs hs (m ∷ ms) = cond (exceeds qs hs (m .pairs)) (m ∷ candidates qs hs ms) (candidates qs hs ms)
+
+-- "A query is reached by a frame if an arriving or departing message exceeds one of its thresholds"
+unfoldable pub reached : List Pair → List ℕ → List Message → Bool
+reached qs hs [] = false
+reached qs hs (m ∷ ms) = exceeds qs hs (m .pairs) || reached qs hs ms
+
+-- the score of the last listed entry: of a full list the k-th
+unfoldable pub lastScore : List Entry → ℕ
+lastScore [] = 0
+lastScore (e ∷ []) = e .score
+lastScore (e ∷ x ∷ xs) = lastScore (x ∷ xs)
+
+-- the weight of a query's term, by its place
+unfoldable pub weightAt : List Pair → ℕ → ℕ
+weightAt qs i = getD qs i (record { term = 0; amount = 0 }) .amount
+
+-- "the threshold sum is strictly below the k-th score, and adding one to any threshold below 1,000 would bring the sum to that score or over"
+pub record Tight (qs : List Pair) (hs : List ℕ) (kth : ℕ) : Type 0 where
+  pub safe : thresholdSum qs hs < kth
+  pub tight : (i : ℕ) → i < length qs → getD hs i 0 < top → kth ≤ thresholdSum qs hs + weightAt qs i
+
+-- What an engine keeps of a query: a threshold for each term, the candidates by serial in the order of acceptance, and the list.
+pub record Kept : Type 0 where
+  pub thresholds : List ℕ
+  pub candidates : List ℕ
+  pub list : List Line
+
+-- What is kept of a query is right for these messages in force.
+pub record Settled (q : Query) (ms : List Message) (kept : Kept) : Type 0 where
+  pub one-each : length (kept .thresholds) ≡ length (q .terms)
+  pub in-scale : (i : ℕ) → getD (kept .thresholds) i 0 ≤ top
+  pub ranked : kept .list ≡ lines (ranking q ms)
+  pub above : kept .candidates ≡ serials (candidates (q .terms) (kept .thresholds) ms)
+  pub full : length (ranking q ms) ≡ q .k → Tight (q .terms) (kept .thresholds) (lastScore (ranking q ms))
+  pub short : length (ranking q ms) < q .k → (i : ℕ) → getD (kept .thresholds) i 0 ≡ 0

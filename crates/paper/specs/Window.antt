@@ -1,0 +1,35 @@
+-- The window: which of the accepted messages are in force, and which leave it.
+-- Document 01, "Window, impact, rank". Assumes nothing.
+use Prim.Native.Nat.{ℕ, _+_, _-_}
+use mathlib.Core.Bool.{Bool, cond, not, _&&_}
+use mathlib.Core.List.{List, [], _∷_}
+use lib.ListN.{length}
+use lib.Dec.{leb, ltb}
+use Rattle.paper.specs.Frame.{Pair}
+
+-- An accepted message: its arrival time, serial and pairs of term and count.
+pub record Message : Type 0 where
+  pub time : ℕ
+  pub serial : ℕ
+  pub pairs : List Pair
+
+-- "whose age (clock less arrival time) is below T" is in force; any other is aged
+abbrev pub aged : ℕ → ℕ → Message → Bool
+aged T clock m = leb T (clock - m .time)
+
+-- "those of the last N accepted messages whose age .. is below T": a message after which `later` more were accepted
+abbrev pub standing : ℕ → ℕ → ℕ → ℕ → Message → Bool
+standing N T clock later m = ltb later N && not (aged T clock m)
+
+-- those in force of all accepted messages, in the order of acceptance
+unfoldable pub inForce : ℕ → ℕ → ℕ → List Message → List Message
+inForce N T clock [] = []
+inForce N T clock (m ∷ l) = cond (standing N T clock (length l) m) (m ∷ inForce N T clock l) (inForce N T clock l)
+
+-- "departs with one before which it is in force and after which it isn't": as the clock moves on and `more` messages are added
+unfoldable pub departing : ℕ → ℕ → ℕ → ℕ → ℕ → List Message → List Message
+departing N T clock clock′ more [] = []
+departing N T clock clock′ more (m ∷ l) =
+    cond (standing N T clock (length l) m && not (standing N T clock′ (length l + more) m))
+    (m ∷ departing N T clock clock′ more l)
+    (departing N T clock clock′ more l)

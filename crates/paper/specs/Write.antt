@@ -1,0 +1,74 @@
+-- The writer: a frame from its fields, or the first of 2, 5, 6 and 12 that applies.
+-- Document 01: "The writer makes a frame from its fields, judges only the fields of that kind, and returns the frame's length in bytes."
+-- Assumes nothing.
+use Prim.Native.Nat.{ℕ, zero, suc, _^_}
+use mathlib.Core.Bool.{Bool, true, cond, _&&_}
+use mathlib.Core.List.{List, [], _∷_}
+use lib.ListN.{length}
+use lib.Dec.{eqb, leb, ltb}
+use Rattle.paper.specs.Frame.{Pair, Frame, Shape, encode, rising, termWidth, countWidth, weightWidth, mostPairs, mostTerms}
+use Rattle.paper.specs.Frame.Frame.{message, tick, register, unregister}
+use Rattle.paper.specs.Frame.Shape.{refused, accepted}
+
+-- what a caller may hand over: any numbers; the first `pairs` places of both lists are the pairs
+pub record Fields : Type 0 where
+  pub kind : ℕ
+  pub time : ℕ
+  pub serial : ℕ
+  pub number : ℕ
+  pub k : ℕ
+  pub pairs : ℕ
+  pub terms : List ℕ
+  pub amounts : List ℕ
+
+-- the first n places of two lists, side by side
+unfoldable pub side-by-side : ℕ → List ℕ → List ℕ → List Pair
+side-by-side zero ts us = []
+side-by-side (suc n) [] us = []
+side-by-side (suc n) (t ∷ ts) [] = []
+side-by-side (suc n) (t ∷ ts) (u ∷ us) = record { term = t; amount = u } ∷ side-by-side n ts us
+
+-- from 1 up to `most`
+abbrev pub within : ℕ → ℕ → Bool
+within most n = ltb 0 n && leb n most
+
+-- terms of ten bits, counts or weights from 1 on of w bits
+unfoldable pub allWithin : ℕ → List Pair → Bool
+allWithin w [] = true
+allWithin w (p ∷ ps) = ltb (p .term) (2 ^ termWidth) && (ltb 0 (p .amount) && ltb (p .amount) (2 ^ w)) && allWithin w ps
+
+-- whether the number of pairs is within its range, both lists are as long, and each pair is within its range
+abbrev pub pairsWithin : ℕ → ℕ → Fields → Bool
+pairsWithin w most f =
+    within most (f .pairs) && leb (f .pairs) (length (f .terms)) && leb (f .pairs) (length (f .amounts))
+    && allWithin w (side-by-side (f .pairs) (f .terms) (f .amounts))
+
+-- 5, then 6, or the frame
+abbrev pub judged : Bool → List Pair → Frame → Shape
+judged inRange ps f = cond inRange (cond (rising ps) (accepted f) (refused 6)) (refused 5)
+
+abbrev pub pairsOf : Fields → List Pair
+pairsOf f = side-by-side (f .pairs) (f .terms) (f .amounts)
+
+-- 2, 5, 6, or the frame: only the fields of the kind are looked at
+unfoldable pub fromFields : Fields → Shape
+fromFields f =
+    cond (eqb (f .kind) 1)
+    (judged (ltb (f .time) (2 ^ 32) && ltb (f .serial) (2 ^ 20) && pairsWithin countWidth mostPairs f) (pairsOf f) (message (f .time) (f .serial) (pairsOf f)))
+    (cond (eqb (f .kind) 2)
+    (judged (ltb (f .time) (2 ^ 32)) [] (tick (f .time)))
+    (cond (eqb (f .kind) 3)
+    (judged (ltb (f .time) (2 ^ 32) && ltb (f .number) (2 ^ 5) && within (2 ^ 4) (f .k) && pairsWithin weightWidth mostTerms f) (pairsOf f) (register (f .time) (f .number) (f .k) (pairsOf f)))
+    (cond (eqb (f .kind) 4)
+    (judged (ltb (f .time) (2 ^ 32) && ltb (f .number) (2 ^ 5)) [] (unregister (f .time) (f .number)))
+    (refused 2))))
+
+-- the bytes to write, none where refused
+abbrev pub bytesOf : Shape → List ℕ
+bytesOf (refused r) = []
+bytesOf (accepted f) = encode f
+
+-- "The writer: 2, 5, 6, then 12": 0 where the frame is written into output of so many bytes
+abbrev pub writeNumber : ℕ → Shape → ℕ
+writeNumber room (refused r) = r
+writeNumber room (accepted f) = cond (leb (length (encode f)) room) 0 12

@@ -1,0 +1,1 @@
+// Bit fields in bytes, most significant bit first.
