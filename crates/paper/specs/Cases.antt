@@ -1,7 +1,7 @@
 -- The starred cases of document 01, "Worked passages", as one table. proofs/CasesHold.antt has its one theorem.
 -- Assumes nothing.
-use Prim.Native.Nat.{ℕ, zero, suc, _+_}
-use mathlib.Core.List.{List, [], _∷_, _++_, map}
+use Prim.Native.Nat.{ℕ, suc}
+use mathlib.Core.List.{List, [], _∷_, map}
 use Rattle.paper.specs.Frame.{Pair, Frame, Shape, encode, shape}
 use Rattle.paper.specs.Frame.Frame.{message, tick, register, unregister}
 use Rattle.paper.specs.Frame.Shape.{refused, accepted}
@@ -95,8 +95,8 @@ table =
     ∷ impacts (255 ∷ []) (1000 ∷ [])
     -- C3
     ∷ impacts
-      (1 ∷ 255 ∷ 255 ∷ 255 ∷ 255 ∷ 255 ∷ 255 ∷ 255 ∷ 255 ∷ 255 ∷ 255 ∷ 255 ∷ 255 ∷ 255 ∷ 255 ∷ 255 ∷ [])
-      (1 ∷ 258 ∷ 258 ∷ 258 ∷ 258 ∷ 258 ∷ 258 ∷ 258 ∷ 258 ∷ 258 ∷ 258 ∷ 258 ∷ 258 ∷ 258 ∷ 258 ∷ 258 ∷ [])
+    (1 ∷ 255 ∷ 255 ∷ 255 ∷ 255 ∷ 255 ∷ 255 ∷ 255 ∷ 255 ∷ 255 ∷ 255 ∷ 255 ∷ 255 ∷ 255 ∷ 255 ∷ 255 ∷ [])
+    (1 ∷ 258 ∷ 258 ∷ 258 ∷ 258 ∷ 258 ∷ 258 ∷ 258 ∷ 258 ∷ 258 ∷ 258 ∷ 258 ∷ 258 ∷ 258 ∷ 258 ∷ 258 ∷ [])
     -- C4
     ∷ spelling (tick 120) (0x20 ∷ 0x00 ∷ 0x00 ∷ 0x07 ∷ 0x80 ∷ [])
     ∷ judging (0x20 ∷ 0x00 ∷ 0x00 ∷ 0x07 ∷ 0x81 ∷ []) 4
@@ -113,12 +113,12 @@ table =
     ∷ passage 3 100 c9 ((0 ∷ 0 ∷ []) ∷ (0 ∷ 0 ∷ 1 ∷ 1000 ∷ []) ∷ (0 ∷ 0 ∷ 2 ∷ 1000 ∷ 1 ∷ 1000 ∷ []) ∷ [])
     -- C10
     ∷ passage 3 100 c10
-      ((0 ∷ 0 ∷ [])
-      ∷ (0 ∷ 0 ∷ 1 ∷ 2200 ∷ [])
-      ∷ (0 ∷ 0 ∷ 1 ∷ 2200 ∷ 2 ∷ 1000 ∷ [])
-      ∷ (0 ∷ 0 ∷ 1 ∷ 2200 ∷ 3 ∷ 1414 ∷ [])
-      ∷ (0 ∷ 1 ∷ 3 ∷ 1414 ∷ 2 ∷ 1000 ∷ [])
-      ∷ (0 ∷ 1 ∷ 3 ∷ 1414 ∷ 4 ∷ 447 ∷ [])
-      ∷ (7 ∷ 0 ∷ 3 ∷ 1414 ∷ 4 ∷ 447 ∷ [])
-      ∷ [])
+    ((0 ∷ 0 ∷ [])
+    ∷ (0 ∷ 0 ∷ 1 ∷ 2200 ∷ [])
+    ∷ (0 ∷ 0 ∷ 1 ∷ 2200 ∷ 2 ∷ 1000 ∷ [])
+    ∷ (0 ∷ 0 ∷ 1 ∷ 2200 ∷ 3 ∷ 1414 ∷ [])
+    ∷ (0 ∷ 1 ∷ 3 ∷ 1414 ∷ 2 ∷ 1000 ∷ [])
+    ∷ (0 ∷ 1 ∷ 3 ∷ 1414 ∷ 4 ∷ 447 ∷ [])
+    ∷ (7 ∷ 0 ∷ 3 ∷ 1414 ∷ 4 ∷ 447 ∷ [])
+    ∷ [])
     ∷ []

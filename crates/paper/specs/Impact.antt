@@ -1,7 +1,7 @@
 -- Impact and score: the cosine of document 001, formula (1), in whole numbers.
 -- Document 01, "Window, impact, rank". Assumes nothing.
 use Prim.Native.Nat.{ℕ, zero, suc, _+_, _*_}
-use mathlib.Core.Bool.{Bool, true, false, cond}
+use mathlib.Core.Bool.{Bool, cond}
 use mathlib.Core.List.{List, [], _∷_}
 use lib.Dec.{eqb, leb}
 use Rattle.paper.specs.Frame.{Pair}

@@ -1,16 +1,16 @@
 -- The paper log: what was accepted, the refusal table, and the replies.
 -- Document 01, "Replies" and "The paper log". Assumes nothing.
-use Prim.Native.Nat.{ℕ, zero, suc, _+_, _*_, _^_}
-use mathlib.Core.Bool.{Bool, true, false, cond, not, _&&_, _||_}
+use Prim.Native.Nat.{ℕ, _*_, _^_}
+use mathlib.Core.Bool.{Bool, true, false, cond, _&&_, _||_}
 use mathlib.Core.List.{List, [], _∷_, _++_}
 use mathlib.Core.Option.{Option, none, some}
 use lib.ListN.{length, getD, set, replicate}
 use lib.Dec.{eqb, leb, ltb}
-use Rattle.paper.specs.Frame.{Pair, Frame, Shape, shape}
+use Rattle.paper.specs.Frame.{Frame, Shape, shape}
 use Rattle.paper.specs.Frame.Frame.{message, tick, register, unregister}
 use Rattle.paper.specs.Frame.Shape.{refused, accepted}
 use Rattle.paper.specs.Window.{Message, inForce, departing}
-use Rattle.paper.specs.Rank.{Query, Entry, Line, ranking, postings, lines}
+use Rattle.paper.specs.Rank.{Query, Line, ranking, postings, lines}
 
 -- ---- sizes
 

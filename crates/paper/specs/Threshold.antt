@@ -2,13 +2,14 @@
 -- Document 01, "Thresholds"; demand 3. Assumes nothing.
 use Prim.Native.Nat.{ℕ, _+_, _*_, _≤_, _<_}
 use mathlib.Core.Path.{_≡_}
-use mathlib.Core.Bool.{Bool, false, cond, _||_}
+use mathlib.Core.Bool.{Bool, false, _||_}
 use mathlib.Core.List.{List, [], _∷_}
 use lib.ListN.{length, getD}
 use lib.Dec.{ltb}
 use Rattle.paper.specs.Frame.{Pair}
 use Rattle.paper.specs.Window.{Message}
 use Rattle.paper.specs.Impact.{top, impactIn}
+use Rattle.paper.specs.Sort.{select}
 use Rattle.paper.specs.Rank.{Query, Entry, Line, ranking, lines, serials}
 
 -- "The threshold sum is the sum of weight × threshold."
@@ -24,9 +25,8 @@ exceeds (q ∷ qs) [] ps = false
 exceeds (q ∷ qs) (h ∷ hs) ps = ltb h (impactIn ps (q .term)) || exceeds qs hs ps
 
 -- "Candidates are the messages in force with an impact strictly above the threshold in some query term."
-unfoldable pub candidates : List Pair → List ℕ → List Message → List Message
-candidates qs hs [] = []
-candidates qs hs (m ∷ ms) = cond (exceeds qs hs (m .pairs)) (m ∷ candidates qs hs ms) (candidates qs hs ms)
+abbrev pub candidates : List Pair → List ℕ → List Message → List Message
+candidates qs hs ms = select (λ m. exceeds qs hs (m .pairs)) ms
 
 -- "A query is reached by a frame if an arriving or departing message exceeds one of its thresholds"
 unfoldable pub reached : List Pair → List ℕ → List Message → Bool
