@@ -1,1 +1,4 @@
 pub mod CasesHold
+pub mod Tests
+pub mod WindowLaws
+pub mod LogLaws

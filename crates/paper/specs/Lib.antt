@@ -8,3 +8,4 @@ pub mod Threshold
 pub mod Log
 pub mod Demand3
 pub mod Cases
+pub mod Sound

@@ -1,0 +1,197 @@
+-- Every log that is fed from a start is sound, and how a frame changes what is in force. Assumes nothing.
+use Prim.Native.Nat.{ℕ, zero, suc, _+_, _-_, _≤_, _<_, _^_}
+use native.Mathlib.Nat.{le-refl, not-suc-le-zero}
+use native.Mathlib.Omega.{arith}
+use mathlib.Core.Path.{_≡_, refl, sym, ap, _∙_, subst}
+use mathlib.Core.Bool.{Bool, true, false, cond, _||_, false≢true}
+use mathlib.Core.List.{List, [], _∷_, _++_, append-nil}
+use mathlib.Core.Option.{Option, none, some}
+use lib.ListN.{length, set, replicate, length-set}
+use lib.Dec.{eqb, ltb}
+use borrow.Author.Tests.{ltb-false, eqb-false, ne-eqb}
+use Rattle.paper.proofs.Tests.{or-false, not-refused}
+use Rattle.paper.specs.Frame.{Pair, Frame, Shape, Valid, shape}
+use Rattle.paper.specs.Frame.Frame.{message, tick, register, unregister}
+use Rattle.paper.specs.Frame.Shape.{refused, accepted}
+use Rattle.paper.specs.Window.{Message, inForce, departing}
+use Rattle.paper.specs.Rank.{Query}
+use Rattle.paper.specs.Log.{Log, Call, fresh, numbers, inForceNow, inForceAt, hasSerial, timeOf, judgeKind, judgeFrame, judgeShape, lent, judge, arrivals, queriesAfter, accept, acceptShape, after, replay, departs}
+use Rattle.paper.specs.Sound.{From, Ordered, Distinct, Messages, Terms, Queries, Sound}
+use Rattle.paper.proofs.WindowLaws.{staying, standing-true, in-force-append, departing-staying}
+
+-- ---- times
+
+from-append : (x : ℕ) (l new : List Message) → From x l → From x new → From x (l ++ new)
+from-append x [] new f g = g
+from-append x (m ∷ l) new f g = (f .0, from-append x l new (f .1) g)
+
+from-earlier : (x y : ℕ) (l : List Message) → From y l → x ≤ y → From x l
+from-earlier x y [] f h = tt
+from-earlier x y (m ∷ l) f h = (omega arith, from-earlier x y l (f .1) h)
+
+ordered-append : (c t : ℕ) (l new : List Message) → Ordered c l → c ≤ t → From c new → Ordered t new → Ordered t (l ++ new)
+ordered-append c t [] new o h f g = g
+ordered-append c t (m ∷ l) new o h f g =
+    (omega arith, from-append (m .time) l new (o .1) (from-earlier (m .time) c new f (o .0)), ordered-append c t l new (o .2) h f g)
+
+-- ---- serials
+
+eqb-swap : (a b : ℕ) → eqb a b ≡ false → eqb b a ≡ false
+eqb-swap a b e = ne-eqb b a (λ h. eqb-false a b e (sym h))
+
+serial-append : (s : ℕ) (a b : List Message) → hasSerial s (a ++ b) ≡ false → hasSerial s b ≡ false
+unfolding hasSerial
+serial-append s [] b e = e
+serial-append s (m ∷ a) b e = serial-append s a b (or-false (eqb (m .serial) s) (hasSerial s (a ++ b)) e .1)
+
+serial-snoc : (s : ℕ) (l : List Message) (m : Message) → hasSerial s l ≡ false → eqb (m .serial) s ≡ false → hasSerial s (l ++ (m ∷ [])) ≡ false
+unfolding hasSerial
+serial-snoc s [] m e h = rw h
+serial-snoc s (x ∷ l) m e h =
+    let p = or-false (eqb (x .serial) s) (hasSerial s l) e in
+    rw (p .0, serial-snoc s l m (p .1) h)
+
+distinct-append : (a b : List Message) → Distinct (a ++ b) → Distinct b
+distinct-append [] b d = d
+distinct-append (m ∷ a) b d = distinct-append a b (d .1)
+
+distinct-snoc : (l : List Message) (m : Message) → Distinct l → hasSerial (m .serial) l ≡ false → Distinct (l ++ (m ∷ []))
+unfolding hasSerial
+distinct-snoc [] m d e = (refl, tt)
+distinct-snoc (x ∷ l) m d e =
+    let p = or-false (eqb (x .serial) (m .serial)) (hasSerial (m .serial) l) e in
+    (serial-snoc (x .serial) l m (d .0) (eqb-swap (x .serial) (m .serial) (p .0)), distinct-snoc l m (d .1) (p .1))
+
+-- ---- fields within their ranges
+
+messages-append : (l new : List Message) → Messages l → Messages new → Messages (l ++ new)
+messages-append [] new a b = b
+messages-append (m ∷ l) new a b = (a .0, a .1, messages-append l new (a .2) b)
+
+empty-queries : (n : ℕ) → Queries (replicate n none)
+empty-queries zero = tt
+empty-queries (suc n) = empty-queries n
+
+some-query : (qs : List (Option Query)) (n : ℕ) (q : Query) → Queries qs → Terms q → Queries (set qs n (some q))
+some-query [] n q a t = tt
+some-query (none ∷ qs) zero q a t = (t, a)
+some-query (some x ∷ qs) zero q a t = (t, a .1)
+some-query (none ∷ qs) (suc n) q a t = some-query qs n q a t
+some-query (some x ∷ qs) (suc n) q a t = (a .0, some-query qs n q (a .1) t)
+
+no-query : (qs : List (Option Query)) (n : ℕ) → Queries qs → Queries (set qs n none)
+no-query [] n a = tt
+no-query (none ∷ qs) zero a = a
+no-query (some x ∷ qs) zero a = a .1
+no-query (none ∷ qs) (suc n) a = no-query qs n a
+no-query (some x ∷ qs) (suc n) a = (a .0, no-query qs n (a .1))
+
+-- ---- a frame that the log accepts
+
+-- what is in force before it and stays
+abbrev pub stays : Log → Frame → List Message
+stays log f = staying (log .N) (log .T) (timeOf f) (length (arrivals f)) (log .messages)
+
+valid-time : (f : Frame) → Valid f → timeOf f < 2 ^ 32
+valid-time (message t s ps) v = v .time
+valid-time (tick t) v = v
+valid-time (register t n k ps) v = v .time
+valid-time (unregister t n) v = v .0
+
+module _ (log : Log) (f : Frame) (sound : Sound log) (ok : judgeFrame log f ≡ 0) where
+  -- its time is not below the clock
+  pub time-from-clock : log .clock ≤ timeOf f
+  time-from-clock = ltb-false (timeOf f) (log .clock) (not-refused (ltb (timeOf f) (log .clock)) 6 (judgeKind log f) ok .0)
+
+  kind-ok : judgeKind log f ≡ 0
+  kind-ok = not-refused (ltb (timeOf f) (log .clock)) 6 (judgeKind log f) ok .1
+
+  -- what was in force departs or stays
+  pub in-force-before : inForceNow log ≡ departs log f ++ stays log f
+  unfolding departs
+  in-force-before =
+      departing-staying (log .N) (log .T) (log .clock) (timeOf f) (length (arrivals f)) (log .clock) (log .messages) (sound .ordered) time-from-clock
+
+  distinct-stays : Distinct (stays log f)
+  distinct-stays = distinct-append (departs log f) (stays log f) (subst Distinct in-force-before (sound .distinct))
+
+-- an arriving message is in force
+arrive : (N T : ℕ) (f : Frame) → 1 ≤ N → 1 ≤ T → inForce N T (timeOf f) (arrivals f) ≡ arrivals f
+unfolding inForce
+arrive N T (message t s ps) n h = rw (standing-true N T t 0 (record { time = t; serial = s; pairs = ps }) n (omega arith))
+arrive N T (tick t) n h = refl
+arrive N T (register t m k ps) n h = refl
+arrive N T (unregister t m) n h = refl
+
+-- what stays is in force, and then what arrives
+pub in-force-after : (log : Log) (f : Frame) → Sound log → inForceNow (accept log f) ≡ stays log f ++ arrivals f
+unfolding accept
+in-force-after log f sound =
+    in-force-append (log .N) (log .T) (timeOf f) (log .messages) (arrivals f)
+    ∙ ap (λ (l : List Message). stays log f ++ l) (arrive (log .N) (log .T) f (sound .N-least) (sound .T-least))
+
+-- the serial of an arriving message isn't among those that stay
+new-serial : (log : Log) (t s : ℕ) (ps : List Pair) → Sound log → judgeFrame log (message t s ps) ≡ 0 → hasSerial s (stays log (message t s ps)) ≡ false
+new-serial log t s ps sound ok =
+    let free : hasSerial s (inForceAt log t) ≡ false = not-refused (hasSerial s (inForceAt log t)) 7 0 (kind-ok log (message t s ps) sound ok) .0 in
+    serial-append s (departing (log .N) (log .T) t t 1 (log .messages)) (stays log (message t s ps))
+    (rw (← (departing-staying (log .N) (log .T) t t 1 (log .clock) (log .messages) (sound .ordered) (le-refl t))) free)
+
+distinct-after : (log : Log) (f : Frame) → Sound log → judgeFrame log f ≡ 0 → Distinct (stays log f ++ arrivals f)
+distinct-after log (message t s ps) sound ok =
+    distinct-snoc (stays log (message t s ps)) (record { time = t; serial = s; pairs = ps }) (distinct-stays log (message t s ps) sound ok) (new-serial log t s ps sound ok)
+distinct-after log (tick t) sound ok = rw append-nil (distinct-stays log (tick t) sound ok)
+distinct-after log (register t n k ps) sound ok = rw append-nil (distinct-stays log (register t n k ps) sound ok)
+distinct-after log (unregister t n) sound ok = rw append-nil (distinct-stays log (unregister t n) sound ok)
+
+arrivals-from : (f : Frame) (c : ℕ) → c ≤ timeOf f → From c (arrivals f) × Ordered (timeOf f) (arrivals f)
+arrivals-from (message t s ps) c h = ((h, tt), (le-refl t, tt, tt))
+arrivals-from (tick t) c h = (tt, tt)
+arrivals-from (register t n k ps) c h = (tt, tt)
+arrivals-from (unregister t n) c h = (tt, tt)
+
+arrivals-valid : (f : Frame) → Valid f → Messages (arrivals f)
+arrivals-valid (message t s ps) v = (v .serial, v .pairs, tt)
+arrivals-valid (tick t) v = tt
+arrivals-valid (register t n k ps) v = tt
+arrivals-valid (unregister t n) v = tt
+
+queries-after : (f : Frame) (qs : List (Option Query)) → Queries qs → Valid f → (length (queriesAfter f qs) ≡ length qs) × Queries (queriesAfter f qs)
+queries-after (message t s ps) qs a v = (refl, a)
+queries-after (tick t) qs a v = (refl, a)
+queries-after (register t n k ps) qs a v =
+    let q : Query = record { k = k; terms = ps } in
+    (length-set qs n (some q), some-query qs n q a (record { k-least = v .k-least; k-most = v .k-most; terms = v .terms }))
+queries-after (unregister t n) qs a v = (length-set qs n none, no-query qs n a)
+
+pub accept-sound : (log : Log) (f : Frame) → Sound log → Valid f → judgeFrame log f ≡ 0 → Sound (accept log f)
+unfolding accept
+accept-sound log f sound v ok =
+    let qs = queries-after f (log .queries) (sound .queries) v in
+    let late = time-from-clock log f sound ok in
+    let new = arrivals-from f (log .clock) late in
+    record {
+      N-least = sound .N-least;
+      T-least = sound .T-least;
+      clock-below = valid-time f v;
+      ordered = ordered-append (log .clock) (timeOf f) (log .messages) (arrivals f) (sound .ordered) late (new .0) (new .1);
+      distinct = subst Distinct (sym (in-force-after log f sound)) (distinct-after log f sound ok);
+      messages = messages-append (log .messages) (arrivals f) (sound .messages) (arrivals-valid f v);
+      numbered = qs .0 ∙ sound .numbered;
+      queries = qs .1;
+    }
+
+-- ---- whole lists of frames
+
+pub fresh-sound : (N T : ℕ) → 1 ≤ N → 1 ≤ T → Sound (fresh N T)
+unfolding inForce
+fresh-sound N T n t = record {
+  N-least = n;
+  T-least = t;
+  clock-below = omega arith;
+  ordered = tt;
+  distinct = tt;
+  messages = tt;
+  numbered = refl;
+  queries = empty-queries numbers;
+}

@@ -1,0 +1,18 @@
+-- What a test that is a conjunction, a disjunction or a choice says of its parts. Assumes nothing.
+use Prim.Native.Nat.{ℕ, zero, suc}
+use native.Mathlib.Omega.{arith}
+use mathlib.Core.Path.{_≡_, refl, sym}
+use mathlib.Core.Bool.{Bool, true, false, cond, _&&_, _||_, false≢true, true≢false}
+
+pub and-true : (a b : Bool) → (a && b) ≡ true → (a ≡ true) × (b ≡ true)
+and-true true b e = (refl, e)
+and-true false b e = absurd (false≢true e)
+
+pub or-false : (a b : Bool) → (a || b) ≡ false → (a ≡ false) × (b ≡ false)
+or-false true b e = absurd (true≢false e)
+or-false false b e = (refl, e)
+
+-- a choice between a refusal and something else, where nothing is refused
+pub not-refused : (b : Bool) (r n : ℕ) → cond b (suc r) n ≡ 0 → (b ≡ false) × (n ≡ 0)
+not-refused true r n e = absurd (omega arith)
+not-refused false r n e = (refl, e)

@@ -1,0 +1,110 @@
+-- Laws of the window over messages whose times never fall: what is in force is a suffix of what was accepted, and as the clock moves on and
+-- messages are added a prefix of it leaves. Assumes nothing.
+use Prim.Native.Nat.{ℕ, zero, suc, _+_, _-_, _≤_, _<_}
+use native.Mathlib.Nat.{add-zero}
+use native.Mathlib.Omega.{arith}
+use mathlib.Core.Path.{_≡_, refl, sym, ap, ap₂, _∙_}
+use mathlib.Core.Bool.{Bool, true, false, cond, not, _&&_, and-false}
+use mathlib.Core.List.{List, [], _∷_, _++_}
+use lib.ListN.{length, drop, length-append}
+use lib.Dec.{leb, ltb}
+use borrow.Author.Tests.{lt-ltb, ltb-true, lt-leb, leb-false, not-true}
+use Rattle.paper.proofs.Tests.{and-true}
+use Rattle.paper.specs.Window.{Message, standing, inForce, departing}
+use Rattle.paper.specs.Sound.{From, Ordered}
+
+-- ---- one message
+
+module _ (N T : ℕ) where
+  stands : (t j : ℕ) (m : Message) → standing N T t j m ≡ true → (j < N) × (t - m .time < T)
+  stands t j m e =
+      let p = and-true (ltb j N) (not (leb T (t - m .time))) e in
+      (ltb-true j N (p .0), leb-false T (t - m .time) (not-true (leb T (t - m .time)) (p .1)))
+
+  pub standing-true : (t j : ℕ) (m : Message) → j < N → t - m .time < T → standing N T t j m ≡ true
+  standing-true t j m h k = ap₂ _&&_ (lt-ltb j N h) (ap not (lt-leb T (t - m .time) k))
+
+  -- where a message stands, a later one stands, and each stood before
+  later-stands : (t t′ j j′ : ℕ) (m x : Message) → standing N T t′ j′ m ≡ true → t ≤ t′ → j ≤ j′ → m .time ≤ x .time → standing N T t j x ≡ true
+  later-stands t t′ j j′ m x e ht hj hm = let p = stands t′ j′ m e in standing-true t j x (omega arith) (omega arith)
+
+  -- ---- the messages that stand while `more` others follow
+
+  unfoldable pub staying : ℕ → ℕ → List Message → List Message
+  staying t more [] = []
+  staying t more (m ∷ l) = cond (standing N T t (length l + more) m) (m ∷ staying t more l) (staying t more l)
+
+  pub staying-none : (t : ℕ) (l : List Message) → staying t 0 l ≡ inForce N T t l
+  unfolding staying inForce
+  staying-none t [] = refl
+  staying-none t (m ∷ l) = rw (add-zero (length l), staying-none t l)
+
+  -- what is in force with messages added at the end
+  pub in-force-append : (t : ℕ) (l new : List Message) → inForce N T t (l ++ new) ≡ staying t (length new) l ++ inForce N T t new
+  unfolding staying inForce
+  in-force-append t [] new = refl
+  in-force-append t (m ∷ l) new = rw (length-append l new, in-force-append t l new) (go (standing N T t (length l + length new) m))
+    where
+      go : (b : Bool)
+          → cond b (m ∷ (staying t (length new) l ++ inForce N T t new)) (staying t (length new) l ++ inForce N T t new)
+          ≡ cond b (m ∷ staying t (length new) l) (staying t (length new) l) ++ inForce N T t new
+      go true = refl
+      go false = refl
+
+  -- ---- where one message stands, so do all after it
+
+  all-stay : (t more x : ℕ) (l : List Message) → length l + more ≤ N → t - x < T → From x l → staying t more l ≡ l
+  unfolding staying
+  all-stay t more x [] hn ht f = refl
+  all-stay t more x (m ∷ l) hn ht f =
+      rw (standing-true t (length l + more) m (omega arith) (omega arith), all-stay t more x l (omega arith) ht (f .1))
+
+  none-departs : (t t′ more x : ℕ) (l : List Message) → length l + more ≤ N → t′ - x < T → From x l → departing N T t t′ more l ≡ []
+  unfolding departing
+  none-departs t t′ more x [] hn ht f = refl
+  none-departs t t′ more x (m ∷ l) hn ht f =
+      rw (
+        standing-true t′ (length l + more) m (omega arith) (omega arith),
+        and-false (standing N T t (length l) m),
+        none-departs t t′ more x l (omega arith) ht (f .1),
+      )
+
+  -- in force is a suffix of the accepted messages
+  pub in-force-suffix : (t c : ℕ) (l : List Message) → Ordered c l → (j : ℕ) × (inForce N T t l ≡ drop j l)
+  unfolding inForce
+  in-force-suffix t c [] o = (0, refl)
+  in-force-suffix t c (m ∷ l) o = go (standing N T t (length l) m) refl (in-force-suffix t c l (o .2))
+    where
+      go : (b : Bool) → standing N T t (length l) m ≡ b → (j : ℕ) × (inForce N T t l ≡ drop j l)
+          → (j : ℕ) × (cond b (m ∷ inForce N T t l) (inForce N T t l) ≡ drop j (m ∷ l))
+      go true e ih =
+          let p = stands t (length l) m e in
+          (0, ap (λ (r : List Message). m ∷ r) (sym (staying-none t l) ∙ all-stay t 0 (m .time) l (omega arith) (omega arith) (o .1)))
+      go false e ih = (suc (ih .0), ih .1)
+
+  -- what was in force is what departs and then what stays
+  pub departing-staying : (t t′ more c : ℕ) (l : List Message) → Ordered c l → t ≤ t′ → inForce N T t l ≡ departing N T t t′ more l ++ staying t′ more l
+  unfolding inForce departing staying
+  departing-staying t t′ more c [] o h = refl
+  departing-staying t t′ more c (m ∷ l) o h =
+      go (standing N T t′ (length l + more) m) refl (departing-staying t t′ more c l (o .2) h)
+    where
+      gone : List Message
+      gone = departing N T t t′ more l
+
+      stay : List Message
+      stay = staying t′ more l
+
+      leaves : (b : Bool) → inForce N T t l ≡ gone ++ stay → cond b (m ∷ inForce N T t l) (inForce N T t l) ≡ cond (b && true) (m ∷ gone) gone ++ stay
+      leaves true ih = ap (λ (r : List Message). m ∷ r) ih
+      leaves false ih = ih
+
+      go : (b : Bool) → standing N T t′ (length l + more) m ≡ b → inForce N T t l ≡ gone ++ stay
+          → cond (standing N T t (length l) m) (m ∷ inForce N T t l) (inForce N T t l)
+          ≡ cond (standing N T t (length l) m && not b) (m ∷ gone) gone ++ cond b (m ∷ stay) stay
+      go true e ih =
+          let p = stands t′ (length l + more) m e in
+          let none : gone ≡ [] = none-departs t t′ more (m .time) l (omega arith) (omega arith) (o .1) in
+          rw (later-stands t t′ (length l) (length l + more) m m e h (omega arith) (omega arith), none)
+          (ap (λ (r : List Message). m ∷ r) (ih ∙ ap (λ (r : List Message). r ++ stay) none))
+      go false e ih = leaves (standing N T t (length l) m) ih

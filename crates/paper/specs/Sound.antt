@@ -1,0 +1,52 @@
+-- What is true of every log that was fed from a start: its times never fall, no two messages in force share a serial, and every field is
+-- within its range. Assumes nothing.
+use Prim.Native.Nat.{ℕ, _≤_, _<_, _^_}
+use mathlib.Core.Path.{_≡_}
+use mathlib.Core.Bool.{false}
+use mathlib.Core.List.{List, [], _∷_}
+use mathlib.Core.Option.{Option, none, some}
+use lib.ListN.{length}
+use Rattle.paper.specs.Frame.{Pairs, countWidth, weightWidth, mostPairs, mostTerms}
+use Rattle.paper.specs.Window.{Message}
+use Rattle.paper.specs.Rank.{Query}
+use Rattle.paper.specs.Log.{Log, numbers, hasSerial, inForceNow}
+
+-- every time is at least t
+abbrev pub From : ℕ → List Message → Type 0
+From t [] = Unit {0}
+From t (m ∷ l) = (t ≤ m .time) × From t l
+
+-- the times never fall, and none is above the clock
+abbrev pub Ordered : ℕ → List Message → Type 0
+Ordered clock [] = Unit {0}
+Ordered clock (m ∷ l) = (m .time ≤ clock) × From (m .time) l × Ordered clock l
+
+-- no two share a serial
+abbrev pub Distinct : List Message → Type 0
+Distinct [] = Unit {0}
+Distinct (m ∷ l) = (hasSerial (m .serial) l ≡ false) × Distinct l
+
+-- every message's fields are within their ranges
+abbrev pub Messages : List Message → Type 0
+Messages [] = Unit {0}
+Messages (m ∷ l) = (m .serial < 2 ^ 20) × Pairs countWidth mostPairs (m .pairs) × Messages l
+
+pub record Terms (q : Query) : Type 0 where
+  pub k-least : 1 ≤ q .k
+  pub k-most : q .k ≤ 2 ^ 4
+  pub terms : Pairs weightWidth mostTerms (q .terms)
+
+abbrev pub Queries : List (Option Query) → Type 0
+Queries [] = Unit {0}
+Queries (none ∷ qs) = Queries qs
+Queries (some q ∷ qs) = Terms q × Queries qs
+
+pub record Sound (log : Log) : Type 0 where
+  pub N-least : 1 ≤ log .N
+  pub T-least : 1 ≤ log .T
+  pub clock-below : log .clock < 2 ^ 32
+  pub ordered : Ordered (log .clock) (log .messages)
+  pub distinct : Distinct (inForceNow log)
+  pub messages : Messages (log .messages)
+  pub numbered : length (log .queries) ≡ numbers
+  pub queries : Queries (log .queries)
