@@ -9,7 +9,7 @@ use Rattle.paper.specs.Impact.{greatest, impact, squares, countOf, impac
 use Rattle.paper.specs.Sort.{select, insert, inserts}
 use Rattle.paper.specs.Rank.{ranking}
 use Rattle.paper.specs.Log.{hasSerial, judge, accept, after, departs, departures, judgeList, listed}
-use Rattle.paper.specs.Cases.{Case, table, computed, expected}
+use Rattle.paper.specs.Cases.{table, computed, expected}
 
 pub cases-hold : map computed table ≡ map expected table
 unfolding table odd bits num unpack pack field total spell pairWidths pairValues written encode pairsAt positive rises check shapeOfKind shape inForce departing greatest impact squares countOf impactIn score select insert inserts ranking hasSerial judge accept after departs departures judgeList listed

@@ -1,21 +1,20 @@
 -- Every log that is fed from a start is sound, and how a frame changes what is in force. Assumes nothing.
-use Prim.Native.Nat.{ℕ, zero, suc, _+_, _-_, _≤_, _<_, _^_}
-use native.Mathlib.Nat.{le-refl, not-suc-le-zero}
+use Prim.Native.Nat.{ℕ, zero, suc, _≤_, _<_, _^_}
+use native.Mathlib.Nat.{le-refl}
 use native.Mathlib.Omega.{arith}
 use mathlib.Core.Path.{_≡_, refl, sym, ap, _∙_, subst}
-use mathlib.Core.Bool.{Bool, true, false, cond, _||_, false≢true}
+use mathlib.Core.Bool.{false}
 use mathlib.Core.List.{List, [], _∷_, _++_, append-nil}
 use mathlib.Core.Option.{Option, none, some}
 use lib.ListN.{length, set, replicate, length-set}
 use lib.Dec.{eqb, ltb}
 use borrow.Author.Tests.{ltb-false, eqb-false, ne-eqb}
 use Rattle.paper.proofs.Tests.{or-false, not-refused}
-use Rattle.paper.specs.Frame.{Pair, Frame, Shape, Valid, shape}
+use Rattle.paper.specs.Frame.{Pair, Frame, Valid}
 use Rattle.paper.specs.Frame.Frame.{message, tick, register, unregister}
-use Rattle.paper.specs.Frame.Shape.{refused, accepted}
 use Rattle.paper.specs.Window.{Message, inForce, departing}
 use Rattle.paper.specs.Rank.{Query}
-use Rattle.paper.specs.Log.{Log, Call, fresh, numbers, inForceNow, inForceAt, hasSerial, timeOf, judgeKind, judgeFrame, judgeShape, lent, judge, arrivals, queriesAfter, accept, acceptShape, after, replay, departs}
+use Rattle.paper.specs.Log.{Log, fresh, numbers, inForceNow, inForceAt, hasSerial, timeOf, judgeKind, judgeFrame, arrivals, queriesAfter, accept, departs}
 use Rattle.paper.specs.Sound.{From, Ordered, Distinct, Messages, Terms, Queries, Sound}
 use Rattle.paper.proofs.WindowLaws.{staying, standing-true, in-force-append, departing-staying}
 

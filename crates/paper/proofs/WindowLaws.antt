@@ -1,6 +1,6 @@
 -- Laws of the window over messages whose times never fall: what is in force is a suffix of what was accepted, and as the clock moves on and
 -- messages are added a prefix of it leaves. Assumes nothing.
-use Prim.Native.Nat.{ℕ, zero, suc, _+_, _-_, _≤_, _<_}
+use Prim.Native.Nat.{ℕ, suc, _+_, _-_, _≤_, _<_}
 use native.Mathlib.Nat.{add-zero}
 use native.Mathlib.Omega.{arith}
 use mathlib.Core.Path.{_≡_, refl, sym, ap, ap₂, _∙_}
