@@ -73,9 +73,12 @@ below-top f n v p h m = go (leb v top) refl
         let r : top * top * n < v * v * n = mul-lt-mul-of-pos-right s (lt-of-lt-of-le (mul-pos p p) h) in
         absurd (not-le-of-lt r (le-trans m q))
 
-pub impact-greatest : (f n v : ℕ) → 0 < f → f * f ≤ n → v * v * n ≤ (top * f) * (top * f) → v ≤ impact f n
+pub impact-from : (f n v : ℕ) → v ≤ top → v * v * n ≤ (top * f) * (top * f) → v ≤ impact f n
 unfolding impact
-impact-greatest f n v p h m = none-greater (meets f n) top v (below-top f n v p h m) (le-leb _ _ m)
+impact-from f n v h m = none-greater (meets f n) top v h (le-leb (v * v * n) ((top * f) * (top * f)) m)
+
+pub impact-greatest : (f n v : ℕ) → 0 < f → f * f ≤ n → v * v * n ≤ (top * f) * (top * f) → v ≤ impact f n
+impact-greatest f n v p h m = impact-from f n v (below-top f n v p h m) m
 
 -- ---- a term that a message has
 

@@ -15,7 +15,7 @@ use Rattle.paper.specs.Frame.Frame.{message, tick, register, unregister}
 use Rattle.paper.specs.Window.{Message, inForce, departing}
 use Rattle.paper.specs.Rank.{Query}
 use Rattle.paper.specs.Log.{Log, fresh, numbers, inForceNow, inForceAt, hasSerial, timeOf, judgeKind, judgeFrame, arrivals, queriesAfter, accept, departs}
-use Rattle.paper.specs.Sound.{From, Ordered, Distinct, Messages, Terms, Queries, Sound}
+use Rattle.paper.specs.Sound.{From, Chronological, Distinct, Messages, Terms, Queries, Sound}
 use Rattle.paper.proofs.WindowLaws.{staying, standing-true, in-force-append, departing-staying}
 
 -- ---- times
@@ -28,7 +28,7 @@ from-earlier : (x y : ℕ) (l : List Message) → From y l → x ≤ y → From 
 from-earlier x y [] f h = tt
 from-earlier x y (m ∷ l) f h = (omega arith, from-earlier x y l (f .1) h)
 
-ordered-append : (c t : ℕ) (l new : List Message) → Ordered c l → c ≤ t → From c new → Ordered t new → Ordered t (l ++ new)
+ordered-append : (c t : ℕ) (l new : List Message) → Chronological c l → c ≤ t → From c new → Chronological t new → Chronological t (l ++ new)
 ordered-append c t [] new o h f g = g
 ordered-append c t (m ∷ l) new o h f g =
     (omega arith, from-append (m .time) l new (o .1) (from-earlier (m .time) c new f (o .0)), ordered-append c t l new (o .2) h f g)
@@ -143,7 +143,7 @@ distinct-after log (tick t) sound ok = rw append-nil (distinct-stays log (tick t
 distinct-after log (register t n k ps) sound ok = rw append-nil (distinct-stays log (register t n k ps) sound ok)
 distinct-after log (unregister t n) sound ok = rw append-nil (distinct-stays log (unregister t n) sound ok)
 
-arrivals-from : (f : Frame) (c : ℕ) → c ≤ timeOf f → From c (arrivals f) × Ordered (timeOf f) (arrivals f)
+arrivals-from : (f : Frame) (c : ℕ) → c ≤ timeOf f → From c (arrivals f) × Chronological (timeOf f) (arrivals f)
 arrivals-from (message t s ps) c h = ((h, tt), (le-refl t, tt, tt))
 arrivals-from (tick t) c h = (tt, tt)
 arrivals-from (register t n k ps) c h = (tt, tt)

@@ -11,7 +11,7 @@ use lib.Dec.{leb, ltb}
 use borrow.Author.Tests.{lt-ltb, ltb-true, lt-leb, leb-false, not-true}
 use Rattle.paper.proofs.Tests.{and-true}
 use Rattle.paper.specs.Window.{Message, standing, inForce, departing}
-use Rattle.paper.specs.Sound.{From, Ordered}
+use Rattle.paper.specs.Sound.{From, Chronological}
 
 -- ---- one message
 
@@ -70,7 +70,7 @@ module _ (N T : ℕ) where
       )
 
   -- in force is a suffix of the accepted messages
-  pub in-force-suffix : (t c : ℕ) (l : List Message) → Ordered c l → (j : ℕ) × (inForce N T t l ≡ drop j l)
+  pub in-force-suffix : (t c : ℕ) (l : List Message) → Chronological c l → (j : ℕ) × (inForce N T t l ≡ drop j l)
   unfolding inForce
   in-force-suffix t c [] o = (0, refl)
   in-force-suffix t c (m ∷ l) o = go (standing N T t (length l) m) refl (in-force-suffix t c l (o .2))
@@ -83,7 +83,7 @@ module _ (N T : ℕ) where
       go false e ih = (suc (ih .0), ih .1)
 
   -- what was in force is what departs and then what stays
-  pub departing-staying : (t t′ more c : ℕ) (l : List Message) → Ordered c l → t ≤ t′ → inForce N T t l ≡ departing N T t t′ more l ++ staying t′ more l
+  pub departing-staying : (t t′ more c : ℕ) (l : List Message) → Chronological c l → t ≤ t′ → inForce N T t l ≡ departing N T t t′ more l ++ staying t′ more l
   unfolding inForce departing staying
   departing-staying t t′ more c [] o h = refl
   departing-staying t t′ more c (m ∷ l) o h =

@@ -4,6 +4,7 @@ pub mod Window
 pub mod Impact
 pub mod Sort
 pub mod Rank
+pub mod Order
 pub mod Threshold
 pub mod Log
 pub mod Demand3

@@ -17,9 +17,9 @@ From t [] = Unit {0}
 From t (m ∷ l) = (t ≤ m .time) × From t l
 
 -- the times never fall, and none is above the clock
-abbrev pub Ordered : ℕ → List Message → Type 0
-Ordered clock [] = Unit {0}
-Ordered clock (m ∷ l) = (m .time ≤ clock) × From (m .time) l × Ordered clock l
+abbrev pub Chronological : ℕ → List Message → Type 0
+Chronological clock [] = Unit {0}
+Chronological clock (m ∷ l) = (m .time ≤ clock) × From (m .time) l × Chronological clock l
 
 -- no two share a serial
 abbrev pub Distinct : List Message → Type 0
@@ -45,7 +45,7 @@ pub record Sound (log : Log) : Type 0 where
   pub N-least : 1 ≤ log .N
   pub T-least : 1 ≤ log .T
   pub clock-below : log .clock < 2 ^ 32
-  pub ordered : Ordered (log .clock) (log .messages)
+  pub ordered : Chronological (log .clock) (log .messages)
   pub distinct : Distinct (inForceNow log)
   pub messages : Messages (log .messages)
   pub numbered : length (log .queries) ≡ numbers

@@ -39,7 +39,10 @@ lastScore [] = 0
 lastScore (e ∷ []) = e .score
 lastScore (e ∷ x ∷ xs) = lastScore (x ∷ xs)
 
--- the weight of a query's term, by its place
+-- a query's term and its weight, by their place
+unfoldable pub termAt : List Pair → ℕ → ℕ
+termAt qs i = getD qs i (record { term = 0; amount = 0 }) .term
+
 unfoldable pub weightAt : List Pair → ℕ → ℕ
 weightAt qs i = getD qs i (record { term = 0; amount = 0 }) .amount
 

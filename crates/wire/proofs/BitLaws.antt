@@ -1,19 +1,23 @@
 -- Laws of bits and of bytes, for every width. Assumes nothing.
-use mathlib.Core.Path.{_≡_, refl, sym, ap, ap₂, _∙_}
+use mathlib.Core.Path.{_≡_, refl, sym, ap, _∙_}
 use Prim.Native.Nat.{ℕ, zero, suc, _+_, _*_, _/_, _%_, _^_, _<_}
-use native.Mathlib.Nat.{zero-add, suc-add, add-assoc, add-comm, add-mul, mul-assoc, mod-lt, mod-eq-of-lt, mod-one, zero-mul, pow-succ', le-of-eq, lt-of-lt-of-le, not-suc-le-zero, le-of-suc-le-suc, mul-add-mod-self-right, mul-add-div-right}
+use native.Mathlib.Nat.{zero-add, suc-add, add-assoc, add-comm, add-mul, mul-assoc, mod-lt, mod-eq-of-lt, mod-one, zero-mul, one-mul, pow-succ', le-of-eq, not-suc-le-zero, le-of-suc-le-suc, mul-add-mod-self-right, mul-add-div-right}
 use native.Mathlib.Numerals.{one-add}
 use native.Mathlib.Omega.{arith}
 use mathlib.Core.Bool.{Bool, true, false}
 use mathlib.Core.List.{List, [], _∷_, _++_}
-use lib.ListN.{length, take, drop, length-append, length-take, length-drop, take-append-drop}
+use lib.ListN.{length, take, drop, length-append, length-drop, take-append-drop}
 use lib.Seq.{take-at, drop-at, length-take-le}
 use lib.Dec.{eqb, lit<}
-use lib.Pow.{pow-pos, pow-add, split, high, mod-pow-add, shr-shr, pow-mono}
+use lib.Pow.{pow-pos, pow-add, split, high, mod-pow-add, shr-shr, shl-exact}
 use lib.Arith.{digits-lt}
 use Rattle.wire.specs.Bits.{val, odd, bits, num, unpack, pack, Bytes}
 
 -- ---- one bit
+
+-- 1 << w
+pub one-shl : (w k : ℕ) → w < k → 1 * 2 ^ w % 2 ^ k ≡ 2 ^ w
+one-shl w k h = shl-exact {a = 1} 1 w k (lit< tt) (omega arith) ∙ one-mul (2 ^ w)
 
 pub val-lt : (b : Bool) → val b < 2
 val-lt true = lit< tt
@@ -52,8 +56,8 @@ pub num-bits : (w v : ℕ) → num (bits w v) ≡ v % 2 ^ w
 unfolding bits num
 num-bits zero v = sym (mod-one v)
 num-bits (suc w) v =
-    rw (length-bits w v, val-odd (v / 2 ^ w), num-bits w v)
-    (sym (ap (λ (n : ℕ). v % 2 ^ n) (sym (one-add w)) ∙ mod-pow-add v 1 w))
+    (λ i. val-odd (v / 2 ^ w) i * 2 ^ length-bits w v i + num-bits w v i)
+    ∙ sym (ap (λ (n : ℕ). v % 2 ^ n) (sym (one-add w)) ∙ mod-pow-add v 1 w)
 
 pub num-of : (w v : ℕ) → v < 2 ^ w → num (bits w v) ≡ v
 num-of w v h = num-bits w v ∙ mod-eq-of-lt h
@@ -119,13 +123,3 @@ unpack-pack (suc n) bs h =
     let e : length (take 8 bs) ≡ 8 = length-take-le 8 bs (omega arith) in
     let r : bits 8 (num (take 8 bs)) ≡ take 8 bs = ap (λ (k : ℕ). bits k (num (take 8 bs))) (sym e) ∙ bits-num (take 8 bs) in
     rw (r, unpack-pack n (drop 8 bs) (length-drop 8 bs ∙ omega arith)) (take-append-drop 8 bs)
-
-pub pack-bytes : (n : ℕ) (bs : List Bool) → Bytes (pack n bs)
-unfolding pack
-pack-bytes zero bs i = lit< tt
-pack-bytes (suc n) bs zero = lt-of-lt-of-le (num-lt (take 8 bs)) (pow-mono {j = 8} (omega (arith, length-take 8 bs)))
-pack-bytes (suc n) bs (suc i) = pack-bytes n (drop 8 bs) i
-
--- two lists of as many bytes, whose bits agree, are equal
-pub unpack-same : (s t : List ℕ) → Bytes s → Bytes t → length s ≡ length t → unpack s ≡ unpack t → s ≡ t
-unpack-same s t hs ht e q = sym (pack-unpack s hs) ∙ ap₂ pack e q ∙ pack-unpack t ht

@@ -21,7 +21,7 @@ pub field-fits : (s : List ℕ) (at w k : ℕ) → w ≤ k → field s at w < 2 
 field-fits s at w k h = lt-of-lt-of-le (field-lt s at w) (pow-mono h)
 
 -- a part of a list lies in any prefix that is long enough
-pub part-of-take : (l : List Bool) (a n m : ℕ) → a + n ≤ m → take n (drop a l) ≡ take n (drop a (take m l))
+part-of-take : (l : List Bool) (a n m : ℕ) → a + n ≤ m → take n (drop a l) ≡ take n (drop a (take m l))
 part-of-take l zero n m h = sym (take-take n m l (omega arith))
 part-of-take l (suc a) n zero h = absurd (not-suc-le-zero (subst (λ (k : ℕ). k ≤ 0) (suc-add a n) h))
 part-of-take [] (suc a) n (suc m) h = refl
@@ -64,12 +64,12 @@ module _ (s t : List ℕ) (at w v : ℕ) (fits : at + w ≤ 8 * length s) (is : 
 
   -- a field before it is unchanged
   pub before-kept : (a n : ℕ) → a + n ≤ at → field t a n ≡ field s a n
-  unfolding field placed
+  unfolding field
   before-kept a n h =
       ap num (part-of-take (unpack t) a n at h ∙ ap (λ (l : List Bool). take n (drop a l)) same ∙ sym (part-of-take (unpack s) a n at h))
     where
       same : take at (unpack t) ≡ take at (unpack s)
-      same = rw (is, append-assoc (take at (unpack s)) (bits w v) (drop (at + w) (unpack s))) (take-at (take at (unpack s)) (bits w v ++ drop (at + w) (unpack s)) at head-length)
+      same = sym (take-take at (at + w) (unpack t) (omega arith)) ∙ ap (take at) placed-take ∙ take-at (take at (unpack s)) (bits w v) at head-length
 
   -- a field after it is unchanged
   pub after-kept : (a n : ℕ) → at + w ≤ a → field t a n ≡ field s a n

@@ -1,19 +1,18 @@
 -- A field gathered byte by byte: the turn and the end of the loop of `take_bits`. Assumes nothing.
 use mathlib.Core.Path.{_≡_, ap, ap₂, _∙_, subst}
 use Prim.Native.Nat.{ℕ, zero, suc, _+_, _-_, _*_, _/_, _%_, _^_, _≤_, _<_}
-use native.Mathlib.Nat.{one-mul, not-suc-le-zero, le-of-suc-le-suc}
+use native.Mathlib.Nat.{not-suc-le-zero, le-of-suc-le-suc}
 use native.Mathlib.Omega.{arith}
 use mathlib.Core.Bool.{Bool}
 use mathlib.Core.List.{List, [], _∷_, _++_}
 use lib.ListN.{length, take, drop, getD, length-drop}
 use lib.Seq.{take-at, drop-at, length-take-le, take-add, drop-drop}
-use lib.Dec.{lit<}
-use lib.Pow.{high, low, shl-exact}
+use lib.Pow.{high, low}
 use Rattle.wire.specs.Bits.{bits, num, unpack}
 use Rattle.wire.specs.Field.{field}
-use Rattle.wire.proofs.BitLaws.{length-bits, num-of, num-lt, num-append, length-unpack}
+use Rattle.wire.proofs.BitLaws.{length-bits, num-of, num-lt, num-append, length-unpack, one-shl}
 
-pub unpack-byte : (s : List ℕ) (q : ℕ) → q < length s → take 8 (drop (8 * q) (unpack s)) ≡ bits 8 (getD s q 0)
+unpack-byte : (s : List ℕ) (q : ℕ) → q < length s → take 8 (drop (8 * q) (unpack s)) ≡ bits 8 (getD s q 0)
 unfolding unpack
 unpack-byte [] q h = absurd (not-suc-le-zero h)
 unpack-byte (x ∷ s) zero h = take-at (bits 8 x) (unpack s) 8 (length-bits 8 x)
@@ -22,7 +21,7 @@ unpack-byte (x ∷ s) (suc q) h =
     rw (e, ← drop-drop (8 * q) 8 (bits 8 x ++ unpack s), drop-at (bits 8 x) (unpack s) 8 (length-bits 8 x)) (unpack-byte s q (le-of-suc-le-suc h))
 
 -- one byte more
-pub field-byte : (s : List ℕ) (at w q : ℕ) → at + w ≡ 8 * q → q < length s → getD s q 0 < 256
+field-byte : (s : List ℕ) (at w q : ℕ) → at + w ≡ 8 * q → q < length s → getD s q 0 < 256
     → field s at (w + 8) ≡ field s at w * 256 + getD s q 0
 unfolding field
 field-byte s at w q e h hb =
@@ -33,7 +32,7 @@ field-byte s at w q e h hb =
     ∙ ap₂ (λ (n r : ℕ). num (take w l) * 2 ^ n + r) (length-bits 8 (getD s q 0)) (num-of 8 (getD s q 0) hb)
 
 -- a part of a field
-pub field-part : (s : List ℕ) (a p w c : ℕ) → a + (p + w + c) ≤ 8 * length s → field s a (p + w + c) / 2 ^ c % 2 ^ w ≡ field s (a + p) w
+field-part : (s : List ℕ) (a p w c : ℕ) → a + (p + w + c) ≤ 8 * length s → field s a (p + w + c) / 2 ^ c % 2 ^ w ≡ field s (a + p) w
 unfolding field
 field-part s a p w c h =
     let l : List Bool = drop a (unpack s) in
@@ -53,22 +52,17 @@ field-part s a p w c h =
     ∙ ap (λ (x : List Bool). num (take w x)) (drop-drop p a (unpack s))
 
 -- a turn of the loop that gathers bytes from byte f, with the numbers as code has them
-pub gather-turn : (s : List ℕ) (f i acc : ℕ) → f ≤ i → i < length s → getD s i 0 < 256 → acc ≡ field s (8 * f) (8 * (i - f))
+pub gather-turn : (s : List ℕ) (f i acc : ℕ) → acc ≡ field s (8 * f) (8 * (i - f)) → f ≤ i → i < length s → getD s i 0 < 256
     → acc * 256 + getD s i 0 ≡ field s (8 * f) (8 * (i + 1 - f))
-gather-turn s f i acc hf hi hb e =
+gather-turn s f i acc e hf hi hb =
     let n : 8 * (i + 1 - f) ≡ 8 * (i - f) + 8 = omega arith in
     rw (n, field-byte s (8 * f) (8 * (i - f)) i (omega arith) hi hb, e)
 
--- 1 << w
-pub one-shl : (w k : ℕ) → w < k → 1 * 2 ^ w % 2 ^ k ≡ 2 ^ w
-one-shl w k h = shl-exact {a = 1} 1 w k (lit< tt) (omega arith) ∙ one-mul (2 ^ w)
-
--- what is left of the gathered bytes once the bits after the field, and those before it, are cut off
-pub gather-done : (s : List ℕ) (at w acc : ℕ) → at + w ≤ 8 * length s → w ≤ 32
-    → acc ≡ field s (8 * (at / 8)) (8 * ((at + w + 7) / 8 - at / 8))
-    → acc / 2 ^ ((at + w + 7) / 8 * 8 - (at + w)) % (1 * 2 ^ w % 2 ^ 64) ≡ field s at w
-gather-done s at w acc h hw e =
-    let c : ℕ = (at + w + 7) / 8 * 8 - (at + w) in
-    let n : 8 * ((at + w + 7) / 8 - at / 8) ≡ at % 8 + w + c = omega arith in
-    let a : 8 * (at / 8) + at % 8 ≡ at = omega arith in
-    rw (one-shl w 64 (omega arith), e, n, field-part s (8 * (at / 8)) (at % 8) w c (omega arith), a)
+-- the field in the n bytes gathered from byte f, once the c bits after it, and those before it, are cut off
+pub gather-done : (s : List ℕ) (at w f n c acc : ℕ) → acc ≡ field s (8 * f) (8 * n)
+    → f + n ≤ length s → 8 * f ≤ at → at + w + c ≡ 8 * (f + n) → w < 64 → acc / 2 ^ c % (1 * 2 ^ w % 2 ^ 64) ≡ field s at w
+gather-done s at w f n c acc e hn hf hc hw =
+    let p : ℕ = at - 8 * f in
+    let m : 8 * n ≡ p + w + c = omega arith in
+    let a : 8 * f + p ≡ at = omega arith in
+    rw (one-shl w 64 hw, e, m, field-part s (8 * f) p w c (omega arith), a)

@@ -1,0 +1,187 @@
+-- Why thresholds are enough: candidates give the whole ranking, and a query that a change of the window doesn't reach stays settled.
+-- Assumes nothing.
+use Prim.Native.Nat.{ℕ, suc, _*_, _≤_, _<_}
+use native.Mathlib.Nat.{eq-or-lt-of-le, mul-le-mul-left, mul-zero}
+use native.Mathlib.Omega.{arith}
+use mathlib.Core.Path.{_≡_, refl, sym, ap, _∙_, subst}
+use mathlib.Core.Bool.{Bool, true, false, cond, false≢true}
+use mathlib.Core.Logic.{_⊎_, inl, inr, ⊎-elim}
+use mathlib.Core.List.{List, [], _∷_, _++_, map, append-nil, cons≢nil}
+use lib.ListN.{length, getD, take}
+use lib.Dec.{ltb}
+use borrow.Author.Tests.{ltb-true, ltb-false, lt-ltb, le-leb, lt-leb}
+use Rattle.paper.specs.Frame.{Pair}
+use Rattle.paper.specs.Window.{Message}
+use Rattle.paper.specs.Impact.{impactIn, score}
+use Rattle.paper.specs.Sort.{select, sort}
+use Rattle.paper.specs.Rank.{Query, Entry, ahead, entry, scoring, entries, ranking, lines, serials}
+use Rattle.paper.specs.Threshold.{termAt, thresholdSum, exceeds, candidates, reached, lastScore, Tight, Kept, Settled}
+use Rattle.paper.proofs.Tests.{or-false, or-true}
+use Rattle.paper.proofs.SortLaws.{select-append, select-all, select-in, select-take, select-select, select-map, count-sort, best}
+use Rattle.paper.proofs.RankLaws.{ranking-length, ranking-last}
+
+-- ---- a message that exceeds no threshold
+
+pub score-below : (qs : List Pair) (hs : List ℕ) (ps : List Pair) → exceeds qs hs ps ≡ false → length hs ≡ length qs → score qs ps ≤ thresholdSum qs hs
+unfolding exceeds thresholdSum score
+score-below [] hs ps e n = omega arith
+score-below (q ∷ qs) [] ps e n = omega arith
+score-below (q ∷ qs) (h ∷ hs) ps e n =
+    let d = or-false (ltb h (impactIn ps (q .term))) (exceeds qs hs ps) e in
+    let low : impactIn ps (q .term) ≤ h = omega (arith, ltb-false) in
+    omega (arith, mul-le-mul-left (q .amount) low, score-below qs hs ps (d .1) (omega arith))
+
+above-exceeds : (qs : List Pair) (hs : List ℕ) (ps : List Pair) → length hs ≡ length qs → thresholdSum qs hs < score qs ps → exceeds qs hs ps ≡ true
+above-exceeds qs hs ps n h = go (exceeds qs hs ps) refl
+  where
+    go : (t : Bool) → exceeds qs hs ps ≡ t → t ≡ true
+    go true e = refl
+    go false e = absurd (omega (arith, score-below qs hs ps e n))
+
+-- a message that exceeds one is strictly above it in some term
+pub exceeds-strictly : (qs : List Pair) (hs : List ℕ) (ps : List Pair) → exceeds qs hs ps ≡ true
+    → (i : ℕ) × (i < length qs) × (getD hs i 0 < impactIn ps (termAt qs i))
+unfolding exceeds termAt
+exceeds-strictly [] hs ps e = absurd (false≢true e)
+exceeds-strictly (q ∷ qs) [] ps e = absurd (false≢true e)
+exceeds-strictly (q ∷ qs) (h ∷ hs) ps e =
+    ⊎-elim
+    (λ here. (0, omega arith, ltb-true h (impactIn ps (q .term)) here))
+    (λ there. let r = exceeds-strictly qs hs ps there in (suc (r .0), omega (arith, r .1), r .2))
+    (or-true (ltb h (impactIn ps (q .term))) (exceeds qs hs ps) e)
+
+pub sum-zero : (qs : List Pair) (hs : List ℕ) → ((i : ℕ) → getD hs i 0 ≡ 0) → thresholdSum qs hs ≡ 0
+unfolding thresholdSum
+sum-zero [] hs z = refl
+sum-zero (q ∷ qs) [] z = refl
+sum-zero (q ∷ qs) (h ∷ hs) z = omega (arith, ap (λ n. q .amount * n) (z 0), mul-zero (q .amount), sum-zero qs hs (λ i. z (suc i)))
+
+-- ---- the list rests on what scores above s
+
+abbrev above : ℕ → Entry → Bool
+above s e = ltb s (e .score)
+
+module _ (q : Query) where
+  abbrev scored : List Message → List Entry
+  scored ms = entries (score (q .terms)) ms
+
+  abbrev first : List Entry → List Entry
+  first es = take (q .k) (sort ahead es)
+
+  module _ (s : ℕ) where
+    best-above : (es : List Entry) → q .k ≤ length (select (above s) es) → first es ≡ first (select (above s) es)
+    best-above =
+        best ahead (above s)
+        (λ e x p n. omega (arith, ltb-true, ltb-false, le-leb))
+        (λ e x n p. omega (arith, ltb-true, ltb-false, lt-leb))
+        (q .k)
+
+    -- of a full list whose last score is above s all are
+    full-above : (ms : List Message) → length (ranking q ms) ≡ q .k → s < lastScore (ranking q ms) → q .k ≤ length (select (above s) (scored ms))
+    unfolding ranking
+    full-above ms full h =
+        let listed : select (above s) (ranking q ms) ≡ ranking q ms = select-all (above s) (ranking q ms) (λ e m. omega (arith, ranking-last q ms e m, lt-ltb)) in
+        omega (arith, ap length listed, select-take (above s) (q .k) (sort ahead (scored ms)), count-sort ahead (above s) (scored ms))
+
+    scoring-above : s ≡ 0 → (ms : List Message) → select (above s) (scored ms) ≡ scored ms
+    scoring-above z ms =
+        select-all (above s) (scored ms) (λ x m. let i = select-in scoring x (map (entry (score (q .terms))) ms) m in omega (arith, ltb-true, lt-ltb))
+
+-- A list of up to k that no message of a score of s or less could change.
+abbrev pub Safe : ℕ → ℕ → List Entry → Type 0
+Safe s k es = (s ≡ 0) ⊎ ((length es ≡ k) × (s < lastScore es))
+
+module _ (q : Query) (s : ℕ) (ms ms′ : List Message) (e : select (above s) (scored q ms) ≡ select (above s) (scored q ms′)) where
+  ranking-agrees : Safe s (q .k) (ranking q ms) → ranking q ms ≡ ranking q ms′
+  unfolding ranking
+  ranking-agrees (inl z) = ap (first q) (sym (scoring-above q s z ms) ∙ e ∙ scoring-above q s z ms′)
+  ranking-agrees (inr f) =
+      let n = full-above q s ms (f .0) (f .1) in
+      best-above q s (scored q ms) n ∙ ap (first q) e ∙ sym (best-above q s (scored q ms′) (subst (λ es. q .k ≤ length es) e n))
+
+-- ---- candidates
+
+module _ (q : Query) (hs : List ℕ) (one-each : length hs ≡ length (q .terms)) (ms : List Message) where
+  abbrev those : List Message
+  those = candidates (q .terms) hs ms
+
+  abbrev sum : ℕ
+  sum = thresholdSum (q .terms) hs
+
+  -- whoever scores above the sum is a candidate
+  candidates-above : select (above sum) (scored q those) ≡ select (above sum) (scored q ms)
+  candidates-above =
+      scored-above those
+      ∙ ap (map (entry (score (q .terms))))
+      (select-select high (λ m. exceeds (q .terms) hs (m .pairs)) (λ m p. above-exceeds (q .terms) hs (m .pairs) one-each (omega (arith, ltb-true))) ms)
+      ∙ sym (scored-above ms)
+    where
+      high : Message → Bool
+      high m = ltb sum (score (q .terms) (m .pairs))
+
+      scored-above : (ms : List Message) → select (above sum) (scored q ms) ≡ map (entry (score (q .terms))) (select high ms)
+      scored-above ms =
+          select-select (above sum) scoring (λ x p. omega (arith, ltb-true, lt-ltb)) (map (entry (score (q .terms))) ms)
+          ∙ select-map (entry (score (q .terms))) (above sum) ms
+
+  -- ranking the candidates is enough, where their list is safe ..
+  pub candidates-enough : Safe sum (q .k) (ranking q those) → ranking q those ≡ ranking q ms
+  candidates-enough = ranking-agrees q sum those ms candidates-above
+
+  -- .. or the list of all is
+  pub candidates-keep : Safe sum (q .k) (ranking q ms) → ranking q those ≡ ranking q ms
+  candidates-keep safe = sym (ranking-agrees q sum ms those (sym candidates-above) safe)
+
+-- ---- settled queries
+
+settled-safe : (q : Query) (ms : List Message) (kept : Kept) → Settled q ms kept → Safe (thresholdSum (q .terms) (kept .thresholds)) (q .k) (ranking q ms)
+settled-safe q ms kept s =
+    ⊎-elim (λ e. inr (e, omega (arith, s .full e .safe))) (λ l. inl (sum-zero (q .terms) (kept .thresholds) (s .short l))) (eq-or-lt-of-le (ranking-length q ms))
+
+-- messages with the same candidates
+pub settled-same : (q : Query) (ms ms′ : List Message) (kept : Kept) → Settled q ms kept
+    → candidates (q .terms) (kept .thresholds) ms ≡ candidates (q .terms) (kept .thresholds) ms′ → Settled q ms′ kept
+settled-same q ms ms′ kept s c =
+    let hs = kept .thresholds in
+    let safe = settled-safe q ms kept s in
+    let same : ranking q ms ≡ ranking q (candidates (q .terms) hs ms′) = sym (candidates-keep q hs (s .one-each) ms safe) ∙ ap (ranking q) c in
+    let e : ranking q ms ≡ ranking q ms′ = same ∙ candidates-enough q hs (s .one-each) ms′ (subst (Safe (thresholdSum (q .terms) hs) (q .k)) same safe) in
+    record {
+      one-each = s .one-each;
+      in-scale = s .in-scale;
+      ranked = s .ranked ∙ ap lines e;
+      above = s .above ∙ ap serials c;
+      full = subst (λ l. length l ≡ q .k → Tight (q .terms) hs (lastScore l)) e (s .full);
+      short = subst (λ l. length l < q .k → (i : ℕ) → getD hs i 0 ≡ 0) e (s .short);
+    }
+
+unreached : (qs : List Pair) (hs : List ℕ) (ms : List Message) → reached qs hs ms ≡ false → candidates qs hs ms ≡ []
+unfolding reached select
+unreached qs hs [] e = refl
+unreached qs hs (m ∷ ms) e =
+    let d = or-false (exceeds qs hs (m .pairs)) (reached qs hs ms) e in
+    ap {B = List Message} (λ t. cond t (m ∷ candidates qs hs ms) (candidates qs hs ms)) (d .0) ∙ unreached qs hs ms (d .1)
+
+both-nil : {A : Type 0} (a b : List A) → a ++ b ≡ [] → (a ≡ []) × (b ≡ [])
+both-nil [] b e = (refl, e)
+both-nil (x ∷ a) b e = absurd (cons≢nil e)
+
+-- THE LAW: a settled query that a change of the window doesn't reach is settled after it, with nothing kept changed
+pub skip : (q : Query) (gone stay come : List Message) (kept : Kept) → Settled q (gone ++ stay) kept
+    → reached (q .terms) (kept .thresholds) (gone ++ come) ≡ false → Settled q (stay ++ come) kept
+skip q gone stay come kept s e = settled-same q (gone ++ stay) (stay ++ come) kept s (before ∙ sym after)
+  where
+    those : List Message → List Message
+    those = candidates (q .terms) (kept .thresholds)
+
+    joined : (a b : List Message) → those (a ++ b) ≡ those a ++ those b
+    joined = select-append (λ m. exceeds (q .terms) (kept .thresholds) (m .pairs))
+
+    neither : (those gone ≡ []) × (those come ≡ [])
+    neither = both-nil (those gone) (those come) (sym (joined gone come) ∙ unreached (q .terms) (kept .thresholds) (gone ++ come) e)
+
+    before : those (gone ++ stay) ≡ those stay
+    before = joined gone stay ∙ ap (λ l. l ++ those stay) (neither .0)
+
+    after : those (stay ++ come) ≡ those stay
+    after = joined stay come ∙ ap (λ l. those stay ++ l) (neither .1) ∙ append-nil (those stay)
