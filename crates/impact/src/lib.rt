@@ -1,7 +1,10 @@
 // The impact of a term in a message: the cosine of document 001, scaled to whole numbers.
 ghost use mathlib.Core.Path.{_≡_};
 ghost use Prim.Native.Nat.{ℕ, _+_, _*_, _<_, _≤_};
+ghost use lib.ListN.{length, getD, take, drop};
 ghost use Rattle.paper.specs.Impact.{impact};
+ghost use Rattle.memory.specs.Words.{words};
+ghost use Rattle.impact.specs.Cell.{packed, squaresOf, Looked};
 
 pub struct Impact {
     pub value: u32,
@@ -32,4 +35,55 @@ impl Impact {
         }
         Impact { value: low }
     }
+}
+
+// A pair and its impact in one word.
+pub fn cell(term: u32, count: u32, impact: u32) -> u32
+    requires { ⌜ (term < 1024) × (count < 256) × (impact < 16384) ⌝ }
+    ensures { λ r. ⌜ r ≡ packed term count impact ⌝ }
+{
+    term * 4194304 + count * 16384 + impact
+}
+
+// The sum of the first m counts squared.
+pub fn squared(counts: [u32; 16], m: usize) -> u32
+    requires { ⌜ (m ≤ 16) × ((i : ℕ) → i < m → getD counts i 0 < 256) ⌝ }
+    ensures { λ r. ⌜ r ≡ squaresOf m counts ⌝ }
+{
+    let mut sum: u32 = 0;
+    let mut i: usize = 0;
+    while i < m {
+        let f = counts[i];
+        sum += f * f;
+        i += 1;
+    }
+    sum
+}
+
+// The impacts that the message whose m cells start at word `at` has in the first n terms of a query: one walk over both, which rise.
+pub fn impacts(s: &[u8], at: usize, m: usize, terms: [u32; 8], n: usize) -> [u32; 8]
+    requires { ⌜ (4 * (at + m) ≤ length (now s)) × (n ≤ 8) ⌝ }
+    ensures { λ r. ⌜ Looked (take m (drop at (words (now (s .entry))))) terms n r ⌝ }
+{
+    let mut found = [0u32; 8];
+    let mut i: usize = 0;
+    let mut q: usize = 0;
+    while i < m {
+        if n <= q {
+            return found;
+        }
+        let c = memory::get(s, at + i);
+        let has = c / 4194304;
+        let wants = terms[q];
+        if has < wants {
+            i += 1;
+        } else if wants < has {
+            q += 1;
+        } else {
+            found[q] = c % 16384;
+            i += 1;
+            q += 1;
+        }
+    }
+    found
 }

@@ -6,3 +6,5 @@ pub mod LogLaws
 pub mod SortLaws
 pub mod RankLaws
 pub mod ThresholdLaws
+pub mod FrameLaws
+pub mod WriteLaws

@@ -3,19 +3,21 @@ use Prim.Native.Nat.{ℕ, zero, suc, _≤_, _<_, _^_}
 use native.Mathlib.Nat.{le-refl}
 use native.Mathlib.Omega.{arith}
 use mathlib.Core.Path.{_≡_, refl, sym, ap, _∙_, subst}
-use mathlib.Core.Bool.{false}
+use mathlib.Core.Bool.{Bool, true, false, cond}
 use mathlib.Core.List.{List, [], _∷_, _++_, append-nil}
 use mathlib.Core.Option.{Option, none, some}
 use lib.ListN.{length, set, replicate, length-set}
 use lib.Dec.{eqb, ltb}
-use borrow.Author.Tests.{ltb-false, eqb-false, ne-eqb}
+use borrow.Author.Tests.{ltb-false, eqb-true, eqb-false, ne-eqb}
 use Rattle.paper.proofs.Tests.{or-false, not-refused}
-use Rattle.paper.specs.Frame.{Pair, Frame, Valid}
+use Rattle.paper.specs.Frame.{Pair, Frame, Shape, Valid, shape}
 use Rattle.paper.specs.Frame.Frame.{message, tick, register, unregister}
+use Rattle.paper.specs.Frame.Shape.{refused, accepted}
 use Rattle.paper.specs.Window.{Message, inForce, departing}
 use Rattle.paper.specs.Rank.{Query}
-use Rattle.paper.specs.Log.{Log, fresh, numbers, inForceNow, inForceAt, hasSerial, timeOf, judgeKind, judgeFrame, arrivals, queriesAfter, accept, departs}
+use Rattle.paper.specs.Log.{Log, Call, fresh, numbers, inForceNow, inForceAt, hasSerial, timeOf, judgeKind, judgeFrame, judgeShape, lent, judge, arrivals, queriesAfter, accept, acceptShape, after, replay, departs}
 use Rattle.paper.specs.Sound.{From, Chronological, Distinct, Messages, Terms, Queries, Sound}
+use Rattle.paper.proofs.FrameLaws.{shape-valid}
 use Rattle.paper.proofs.WindowLaws.{staying, standing-true, in-force-append, departing-staying}
 
 -- ---- times
@@ -194,3 +196,26 @@ fresh-sound N T n t = record {
   numbered = refl;
   queries = empty-queries numbers;
 }
+
+-- a shape that is not refused is a frame that the log accepts
+accept-shape-sound : (log : Log) (x : Shape) → Sound log → ((f : Frame) → x ≡ accepted f → Valid f) → judgeShape log x ≡ 0 → Sound (acceptShape log x)
+accept-shape-sound log (refused r) sound valid ok = sound
+accept-shape-sound log (accepted f) sound valid ok = accept-sound log f sound (valid f refl) ok
+
+pub after-sound : (needed : ℕ) (log : Log) (c : Call) → Sound log → Sound (after needed log c)
+unfolding after judge
+after-sound needed log c sound = go (lent (c .state) (c .output) needed)
+  where
+    shaped : (b : Bool) → eqb (judgeShape log (shape (c .bytes))) 0 ≡ b → Sound (cond b (acceptShape log (shape (c .bytes))) log)
+    shaped true e = accept-shape-sound log (shape (c .bytes)) sound (shape-valid (c .bytes)) (eqb-true (judgeShape log (shape (c .bytes))) 0 e)
+    shaped false e = sound
+
+    go : (b : Bool) → Sound (cond (eqb (cond b (judgeShape log (shape (c .bytes))) 12) 0) (acceptShape log (shape (c .bytes))) log)
+    go true = shaped (eqb (judgeShape log (shape (c .bytes))) 0) refl
+    go false = sound
+
+-- whatever is called, the log stays sound
+pub replay-sound : (needed : ℕ) (log : Log) (cs : List Call) → Sound log → Sound (replay needed log cs)
+unfolding replay
+replay-sound needed log [] sound = sound
+replay-sound needed log (c ∷ cs) sound = replay-sound needed (after needed log c) cs (after-sound needed log c sound)

@@ -3,7 +3,7 @@
 -- Assumes nothing.
 use Prim.Native.Nat.{ℕ, zero, suc, _^_}
 use mathlib.Core.Bool.{Bool, true, cond, _&&_}
-use mathlib.Core.List.{List, [], _∷_}
+use mathlib.Core.List.{List, [], _∷_, map}
 use lib.ListN.{length}
 use lib.Dec.{eqb, leb, ltb}
 use Rattle.paper.specs.Frame.{Pair, Frame, Shape, encode, rising, termWidth, countWidth, weightWidth, mostPairs, mostTerms}
@@ -43,6 +43,13 @@ pairsWithin w most f =
     within most (f .pairs) && leb (f .pairs) (length (f .terms)) && leb (f .pairs) (length (f .amounts))
     && allWithin w (side-by-side (f .pairs) (f .terms) (f .amounts))
 
+-- whether every field of a message, of a registration, is within its range
+abbrev pub messageWithin : Fields → Bool
+messageWithin f = ltb (f .time) (2 ^ 32) && ltb (f .serial) (2 ^ 20) && pairsWithin countWidth mostPairs f
+
+abbrev pub registerWithin : Fields → Bool
+registerWithin f = ltb (f .time) (2 ^ 32) && ltb (f .number) (2 ^ 5) && within (2 ^ 4) (f .k) && pairsWithin weightWidth mostTerms f
+
 -- 5, then 6, or the frame
 abbrev pub judged : Bool → List Pair → Frame → Shape
 judged inRange ps f = cond inRange (cond (rising ps) (accepted f) (refused 6)) (refused 5)
@@ -54,11 +61,11 @@ pairsOf f = side-by-side (f .pairs) (f .terms) (f .amounts)
 unfoldable pub fromFields : Fields → Shape
 fromFields f =
     cond (eqb (f .kind) 1)
-    (judged (ltb (f .time) (2 ^ 32) && ltb (f .serial) (2 ^ 20) && pairsWithin countWidth mostPairs f) (pairsOf f) (message (f .time) (f .serial) (pairsOf f)))
+    (judged (messageWithin f) (pairsOf f) (message (f .time) (f .serial) (pairsOf f)))
     (cond (eqb (f .kind) 2)
     (judged (ltb (f .time) (2 ^ 32)) [] (tick (f .time)))
     (cond (eqb (f .kind) 3)
-    (judged (ltb (f .time) (2 ^ 32) && ltb (f .number) (2 ^ 5) && within (2 ^ 4) (f .k) && pairsWithin weightWidth mostTerms f) (pairsOf f) (register (f .time) (f .number) (f .k) (pairsOf f)))
+    (judged (registerWithin f) (pairsOf f) (register (f .time) (f .number) (f .k) (pairsOf f)))
     (cond (eqb (f .kind) 4)
     (judged (ltb (f .time) (2 ^ 32) && ltb (f .number) (2 ^ 5)) [] (unregister (f .time) (f .number)))
     (refused 2))))
@@ -72,3 +79,24 @@ bytesOf (accepted f) = encode f
 abbrev pub writeNumber : ℕ → Shape → ℕ
 writeNumber room (refused r) = r
 writeNumber room (accepted f) = cond (leb (length (encode f)) room) 0 12
+
+-- ---- the fields that make a frame, those of other kinds 0
+
+abbrev pub fieldsFor : (kind time serial number k : ℕ) → List Pair → Fields
+fieldsFor kind t s n k ps =
+    record {
+      kind = kind;
+      time = t;
+      serial = s;
+      number = n;
+      k = k;
+      pairs = length ps;
+      terms = map (λ p. p .term) ps;
+      amounts = map (λ p. p .amount) ps;
+    }
+
+abbrev pub fieldsOf : Frame → Fields
+fieldsOf (message t s ps) = fieldsFor 1 t s 0 0 ps
+fieldsOf (tick t) = fieldsFor 2 t 0 0 0 []
+fieldsOf (register t n k ps) = fieldsFor 3 t 0 n k ps
+fieldsOf (unregister t n) = fieldsFor 4 t 0 n 0 []

@@ -98,6 +98,18 @@ append-same a b c d l e = (
   sym (drop-at a b (length a) refl) ∙ ap (drop (length a)) e ∙ drop-at c d (length a) (sym l),
 )
 
+-- the values that a scan of two layouts finds, parted where the first layout ends
+pub scan-parts : (s : List ℕ) (at : ℕ) (a b vs us : List ℕ) → Fit a vs → scan s at (a ++ b) ≡ vs ++ us
+    → (scan s at a ≡ vs) × (scan s (at + total a) b ≡ us)
+unfolding scan total
+scan-parts s at [] b [] us h e = (refl, rw (add-zero at) e)
+scan-parts s at [] b (v ∷ vs) us h e = absurd h
+scan-parts s at (w ∷ a) b [] us h e = absurd h
+scan-parts s at (w ∷ a) b (v ∷ vs) us h e =
+    let p = scan-parts s (at + w) a b vs us (h .1) (cc) in
+    let q : scan s (at + w) a ≡ vs = p .0 in
+    (cc, rw (← add-assoc at w (total a)) (p .1))
+
 pub spell-append : (a b vs us : List ℕ) → length a ≡ length vs → spell (a ++ b) (vs ++ us) ≡ spell a vs ++ spell b us
 unfolding spell
 spell-append [] b [] us e = refl

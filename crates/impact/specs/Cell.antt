@@ -1,0 +1,45 @@
+-- A cell: one pair of a message with its impact, packed into a word. Assumes nothing.
+use Prim.Native.Nat.{ℕ, zero, suc, _+_, _*_, _/_, _%_, _≤_, _<_}
+use mathlib.Core.Path.{_≡_}
+use mathlib.Core.Bool.{cond}
+use mathlib.Core.List.{List, [], _∷_}
+use lib.ListN.{length, getD}
+use lib.Dec.{eqb}
+
+-- ten bits of term, eight of count, fourteen of impact
+abbrev pub packed : ℕ → ℕ → ℕ → ℕ
+packed term count impact = term * 4194304 + count * 16384 + impact
+
+abbrev pub cellTerm : ℕ → ℕ
+cellTerm c = c / 4194304
+
+abbrev pub cellCount : ℕ → ℕ
+cellCount c = c / 16384 % 256
+
+abbrev pub cellImpact : ℕ → ℕ
+cellImpact c = c % 16384
+
+-- the sum of the first m numbers squared
+unfoldable pub squaresOf : ℕ → List ℕ → ℕ
+squaresOf zero fs = 0
+squaresOf (suc m) [] = 0
+squaresOf (suc m) (f ∷ fs) = f * f + squaresOf m fs
+
+-- the impact of a term in the message with these cells, 0 where it lacks the term
+unfoldable pub lookup : ℕ → List ℕ → ℕ
+lookup t [] = 0
+lookup t (c ∷ cs) = cond (eqb (cellTerm c) t) (cellImpact c) (lookup t cs)
+
+-- the terms of the cells rise strictly, and so do the first n of a query's terms
+abbrev pub RisingCells : List ℕ → Type 0
+RisingCells cs = (i j : ℕ) → i < j → j < length cs → cellTerm (getD cs i 0) < cellTerm (getD cs j 0)
+
+abbrev pub RisingTerms : ℕ → List ℕ → Type 0
+RisingTerms n ts = (i j : ℕ) → i < j → j < n → getD ts i 0 < getD ts j 0
+
+-- A message's impacts in the first n of a query's terms. Whatever memory holds they are below 2 to the 14th; where both rise, as in any message
+-- and query, they are right.
+pub record Looked (cs ts : List ℕ) (n : ℕ) (r : List ℕ) : Type 0 where
+  pub small : (i : ℕ) → getD r i 0 < 16384
+  pub unused : (i : ℕ) → n ≤ i → getD r i 0 ≡ 0
+  pub right : RisingCells cs → RisingTerms n ts → (i : ℕ) → i < n → getD r i 0 ≡ lookup (getD ts i 0) cs

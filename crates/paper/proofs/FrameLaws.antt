@@ -1,0 +1,254 @@
+-- The laws of the frame: what is encoded is read back, what is read is the encoding of a valid frame, and a refusal's number is 1 to 6.
+-- All but the last two sections are for any head, any width of a count or weight, and any number of pairs.
+-- Assumes nothing.
+use mathlib.Core.Path.{_≡_, refl, sym, ap, ap₂, _∙_, subst}
+use Prim.Native.Nat.{ℕ, zero, suc, _+_, _-_, _*_, _≤_, _<_}
+use native.Mathlib.Nat.{zero-add, add-sub-cancel, add-assoc, zero-mul, suc-mul}
+use native.Mathlib.Omega.{arith}
+use mathlib.Core.Bool.{Bool, true, false, cond}
+use mathlib.Core.List.{List, [], _∷_, _++_}
+use lib.ListN.{length, getD}
+use lib.Dec.{eqb, ltb, lit≤, lit<}
+use lib.Pow.{pow-pos}
+use borrow.Author.Tests.{eqb-true, eq-eqb, le-ltb}
+use Rattle.wire.specs.Bits.{Bytes, pack}
+use Rattle.wire.specs.Field.{field, total, spell, scan, Fit}
+use Rattle.wire.proofs.BitLaws.{length-pack}
+use Rattle.wire.proofs.FieldLaws.{field-lt}
+use Rattle.wire.proofs.LayoutLaws.{scan-spell, pack-scan, total-append, scan-append, scan-parts, fit-append}
+use Rattle.paper.specs.Frame.{Pair, Frame, Shape, Pairs, AllFit, Valid, messageHead, tickHead, registerHead, unregisterHead, termWidth, countWidth, weightWidth, mostPairs, mostTerms, pairWidths, pairValues, bitsOf, bytesFor, fillAfter, written, encode, pairsAt, positive, rises, rising, check, shapeOfKind, shape}
+use Rattle.paper.specs.Frame.Frame.{message, tick, register, unregister}
+use Rattle.paper.specs.Frame.Shape.{refused, accepted}
+
+-- ---- pairs
+
+scan-pairs : (s : List ℕ) (at w m : ℕ) → scan s at (pairWidths w m) ≡ pairValues (pairsAt s at w m)
+unfolding scan pairWidths pairValues pairsAt
+scan-pairs s at w zero = refl
+scan-pairs s at w (suc m) = rw (add-assoc at termWidth w, scan-pairs s (at + (termWidth + w)) w m)
+
+total-pairs : (w m : ℕ) → total (pairWidths w m) ≡ m * (termWidth + w)
+unfolding total pairWidths
+total-pairs w zero = sym (zero-mul (termWidth + w))
+total-pairs w (suc m) = rw (total-pairs w m, suc-mul m (termWidth + w)) (omega arith)
+
+fit-pairs : (w : ℕ) (ps : List Pair) → AllFit w ps → Fit (pairWidths w (length ps)) (pairValues ps)
+unfolding pairWidths pairValues
+fit-pairs w [] h = tt
+fit-pairs w (p ∷ ps) h = (h .0, (h .1, fit-pairs w ps (h .2)))
+
+same-pairs : (ps qs : List Pair) → pairValues ps ≡ pairValues qs → ps ≡ qs
+unfolding pairValues
+same-pairs [] [] e = refl
+same-pairs [] (q ∷ qs) e = let z : _≡_ {A = ℕ} 0 1 = cc in absurd (omega arith)
+same-pairs (p ∷ ps) [] e = let z : _≡_ {A = ℕ} 0 1 = cc in absurd (omega arith)
+same-pairs (p ∷ ps) (q ∷ qs) e =
+    let r : ps ≡ qs = same-pairs ps qs (cc) in
+    let t : p .term ≡ q .term = cc in
+    let a : p .amount ≡ q .amount = cc in
+    λ i. record { term = t i; amount = a i } ∷ r i
+
+pub length-pairs : (s : List ℕ) (at w m : ℕ) → length (pairsAt s at w m) ≡ m
+unfolding pairsAt
+length-pairs s at w zero = refl
+length-pairs s at w (suc m) = ap suc (length-pairs s (at + (termWidth + w)) w m)
+
+pairs-fit : (s : List ℕ) (at w m : ℕ) → AllFit w (pairsAt s at w m)
+unfolding pairsAt
+pairs-fit s at w zero = tt
+pairs-fit s at w (suc m) = (field-lt s at termWidth, field-lt s (at + termWidth) w, pairs-fit s (at + (termWidth + w)) w m)
+
+-- ---- bytes and what is read in them
+
+-- the fields of these bytes before the pairs are the values, their pairs are ps, and the rest is zero fill
+pub record Reads (s head : List ℕ) (w : ℕ) (values : List ℕ) (ps : List Pair) : Type 0 where
+  pub long : length s ≡ bytesFor (bitsOf head w (length ps))
+  pub fields : scan s 0 head ≡ values
+  pub pairs : pairsAt s (total head) w (length ps) ≡ ps
+  pub fill : field s (bitsOf head w (length ps)) (fillAfter (bitsOf head w (length ps))) ≡ 0
+
+module _ (head : List ℕ) (w : ℕ) where
+  -- the widths of the m pairs and of the fill, and of all fields
+  abbrev tail : ℕ → List ℕ
+  tail m = pairWidths w m ++ (fillAfter (bitsOf head w m) ∷ [])
+
+  abbrev layout : ℕ → List ℕ
+  layout m = head ++ tail m
+
+  total-layout : (m : ℕ) → total (layout m) ≡ 8 * bytesFor (bitsOf head w m)
+  unfolding total
+  total-layout m = rw (total-append head (tail m), total-append (pairWidths w m) (fillAfter (bitsOf head w m) ∷ []), total-pairs w m) (omega arith)
+
+  module _ (values : List ℕ) (ps : List Pair) where
+    pub encode-length : length (written head w values ps) ≡ bytesFor (bitsOf head w (length ps))
+    unfolding written
+    encode-length = length-pack (bytesFor (bitsOf head w (length ps))) _
+
+    -- what is read in the fields of the layout
+    abbrev all : List ℕ
+    all = values ++ (pairValues ps ++ (0 ∷ []))
+
+    fit-all : Fit head values → AllFit w ps → Fit (layout (length ps)) all
+    fit-all h k = fit-append head _ values _ h (fit-append (pairWidths w (length ps)) _ (pairValues ps) _ (fit-pairs w ps k) (pow-pos (fillAfter (bitsOf head w (length ps))), tt))
+
+    scan-written : Fit head values → AllFit w ps → scan (written head w values ps) 0 (layout (length ps)) ≡ all
+    unfolding written
+    scan-written h k = scan-spell (bytesFor (bitsOf head w (length ps))) (layout (length ps)) all (fit-all h k) (total-layout (length ps))
+
+    -- what was written is read
+    pub written-reads : Fit head values → AllFit w ps → Reads (written head w values ps) head w values ps
+    unfolding scan
+    written-reads h k =
+        let s : List ℕ = written head w values ps in
+        let m : ℕ = length ps in
+        let p = scan-parts s 0 head (tail m) values (pairValues ps ++ (0 ∷ [])) h (scan-written h k) in
+        let rest : scan s (total head) (tail m) ≡ pairValues ps ++ (0 ∷ []) = rw (zero-add (total head)) at (p .1) in
+        let q = scan-parts s (total head) (pairWidths w m) (fillAfter (bitsOf head w m) ∷ []) (pairValues ps) (0 ∷ []) (fit-pairs w ps k) rest in
+        let last = rw (total-pairs w m) at (q .1) in
+        record {
+          long = encode-length;
+          fields = p .0;
+          pairs = same-pairs (pairsAt s (total head) w m) ps (sym (scan-pairs s (total head) w m) ∙ q .0);
+          fill = cc;
+        }
+
+    -- bytes are what is written of what is read in them
+    pub reads-written : (s : List ℕ) → Bytes s → Reads s head w values ps → s ≡ written head w values ps
+    unfolding written scan
+    reads-written s h r =
+        let m : ℕ = length ps in
+        let whole : scan s 0 (layout m) ≡ all =
+        rw (scan-append s 0 head (tail m), zero-add (total head), scan-append s (total head) (pairWidths w m) (fillAfter (bitsOf head w m) ∷ []), scan-pairs s (total head) w m, total-pairs w m, r .fields, r .pairs, r .fill) in
+        sym (pack-scan s (layout m) h (total-layout m ∙ ap (λ (n : ℕ). 8 * n) (sym (r .long)))) ∙ ap₂ pack (r .long) (ap (spell (layout m)) whole)
+
+-- ---- the checks of any kind
+
+-- a claim about what a test picks, from the claim about both choices
+pub by-test : (P : Shape → Type 0) (t : Bool) {x y : Shape} → (t ≡ true → P x) → (t ≡ false → P y) → P (cond t x y)
+by-test P true h k = h refl
+by-test P false h k = k refl
+
+-- the same with the second choice first, for a refusal
+pub or-refused : (P : Shape → Type 0) (t : Bool) {x y : Shape} → P y → (t ≡ true → P x) → P (cond t x y)
+or-refused P t k h = by-test P t h (λ _. k)
+
+pub check-reads : (s head : List ℕ) (w : ℕ) (values : List ℕ) (ps : List Pair) (make : List Pair → Frame) → Reads s head w values ps → positive ps ≡ true → rising ps ≡ true
+    → check s head w (length ps) make ≡ accepted (make ps)
+unfolding check
+check-reads s head w values ps make r p o =
+    let b : ℕ = bitsOf head w (length ps) in
+    rw (eq-eqb (length s) (bytesFor b) (r .long), eq-eqb (field s b (fillAfter b)) 0 (r .fill), r .pairs, p, o)
+
+-- a refusal is one of `least` to 6, and a frame is as claimed
+abbrev pub Judged : ℕ → (Frame → Type 0) → Shape → Type 0
+Judged least Claim (refused r) = (least ≤ r) × (r ≤ 6)
+Judged least Claim (accepted f) = Claim f
+
+-- of the shape of s: the frame is valid, and s is its bytes
+abbrev Sound : List ℕ → Shape → Type 0
+Sound s = Judged 1 (λ f. Valid f × (Bytes s → s ≡ encode f))
+
+module _ (s head : List ℕ) (w m : ℕ) where
+  abbrev found : List Pair
+  found = pairsAt s (total head) w m
+
+  found-reads : length s ≡ bytesFor (bitsOf head w m) → field s (bitsOf head w m) (fillAfter (bitsOf head w m)) ≡ 0
+      → Reads s head w (scan s 0 head) found
+  found-reads long fill =
+      let n : length found ≡ m = length-pairs s (total head) w m in
+      record { long = rw n long; fields = refl; pairs = rw n; fill = rw n fill }
+
+  check-sound : (make : List Pair → Frame) → (positive found ≡ true → rising found ≡ true → Valid (make found))
+      → encode (make found) ≡ written head w (scan s 0 head) found → Sound s (check s head w m make)
+  unfolding check
+  check-sound make valid is =
+      let b : ℕ = bitsOf head w m in
+      or-refused (Sound s) (eqb (length s) (bytesFor b)) (lit≤ tt, lit≤ tt)
+      (λ long. or-refused (Sound s) (eqb (field s b (fillAfter b)) 0) (lit≤ tt, lit≤ tt)
+      (λ fill. or-refused (Sound s) (positive found) (lit≤ tt, lit≤ tt)
+      (λ p. or-refused (Sound s) (rising found) (lit≤ tt, lit≤ tt)
+      (λ o. (valid p o, λ h. reads-written head w (scan s 0 head) found s h (found-reads (eqb-true (length s) (bytesFor b) long) (eqb-true (field s b (fillAfter b)) 0 fill)) ∙ sym is)))))
+
+-- the pairs that follow a field for their number less one
+module _ (s : List ℕ) (at w n : ℕ) where
+  less-one : length (pairsAt s at w (n + 1)) - 1 ≡ n
+  less-one = rw (length-pairs s at w (n + 1)) (omega arith)
+
+  pairs-valid : (most : ℕ) → n < most → positive (pairsAt s at w (n + 1)) ≡ true → rising (pairsAt s at w (n + 1)) ≡ true → Pairs w most (pairsAt s at w (n + 1))
+  pairs-valid most h p o =
+      record {
+        least-one = omega (arith, length-pairs s at w (n + 1));
+        at-most = omega (arith, length-pairs s at w (n + 1));
+        fit = pairs-fit s at w (n + 1);
+        above-zero = p;
+        in-order = o;
+      }
+
+-- ---- bytes to frame, kind by kind
+
+kind-sound : (s : List ℕ) (k : ℕ) → field s 0 4 ≡ k → Sound s (shapeOfKind k s)
+unfolding shapeOfKind encode scan pairsAt
+kind-sound s k e =
+    by-test (Sound s) (eqb k 1) (λ t.
+    check-sound s messageHead countWidth (field s 56 4 + 1) _
+    (λ p o. record { time = field-lt s 4 32; serial = field-lt s 36 20; pairs = pairs-valid s _ countWidth (field s 56 4) mostPairs (field-lt s 56 4) p o })
+    (rw (is 1 t, less-one s (total messageHead) countWidth (field s 56 4))))
+    (λ _. by-test (Sound s) (eqb k 2) (λ t. check-sound s tickHead 0 0 _ (λ _ _. field-lt s 4 32) (rw (is 2 t)))
+    (λ _. by-test (Sound s) (eqb k 3) (λ t.
+    check-sound s registerHead weightWidth (field s 45 3 + 1) _
+    (λ p o. record { time = field-lt s 4 32; number = field-lt s 36 5; k-least = omega arith; k-most = omega (arith, field-lt s 41 4); terms = pairs-valid s _ weightWidth (field s 45 3) mostTerms (field-lt s 45 3) p o })
+    (rw (is 3 t, less-one s (total registerHead) weightWidth (field s 45 3), add-sub-cancel (field s 41 4) 1)))
+    (λ _. by-test (Sound s) (eqb k 4) (λ t. check-sound s unregisterHead 0 0 _ (λ _ _. (field-lt s 4 32, field-lt s 36 5)) (rw (is 4 t)))
+    (λ _. (lit≤ tt, lit≤ tt)))))
+  where
+    is : (n : ℕ) → eqb k n ≡ true → field s 0 4 ≡ n
+    is n t = e ∙ eqb-true k n t
+
+shape-sound : (s : List ℕ) → Sound s (shape s)
+unfolding shape
+shape-sound s = by-test (Sound s) (ltb (length s) 5) (λ _. (lit≤ tt, lit≤ tt)) (λ _. kind-sound s (field s 0 4) refl)
+
+pub shape-number : (s : List ℕ) (r : ℕ) → shape s ≡ refused r → (1 ≤ r) × (r ≤ 6)
+shape-number s r e = subst (Sound s) e (shape-sound s)
+
+pub shape-valid : (s : List ℕ) (f : Frame) → shape s ≡ accepted f → Valid f
+shape-valid s f e = subst (Sound s) e (shape-sound s) .0
+
+pub encode-shape : (s : List ℕ) (f : Frame) → Bytes s → shape s ≡ accepted f → s ≡ encode f
+encode-shape s f b e = subst (Sound s) e (shape-sound s) .1 b
+
+-- ---- frame to bytes, kind by kind
+
+-- the value at a place of two equal lists
+at : {l m : List ℕ} (i : ℕ) → l ≡ m → getD l i 0 ≡ getD m i 0
+at i e = ap (λ (x : List ℕ). getD x i 0) e
+
+-- a number from the field that says one less
+more : {n m : ℕ} → n ≡ m - 1 → 1 ≤ m → n + 1 ≡ m
+more e h = omega arith
+
+-- what is written with these values after the kind is accepted, if they lead to the check of the pairs
+accepts : (k : ℕ) (head : List ℕ) (w : ℕ) (values : List ℕ) (ps : List Pair) (make : List Pair → Frame) → 29 ≤ total head
+    → Fit (4 ∷ head) (k ∷ values) → AllFit w ps → positive ps ≡ true → rising ps ≡ true
+    → ((s : List ℕ) → scan s 0 (4 ∷ head) ≡ k ∷ values → shapeOfKind k s ≡ check s (4 ∷ head) w (length ps) make)
+    → shape (written (4 ∷ head) w (k ∷ values) ps) ≡ accepted (make ps)
+unfolding shape total scan
+accepts k head w values ps make long fit all-fit p o is =
+    let s : List ℕ = written (4 ∷ head) w (k ∷ values) ps in
+    let r : Reads s (4 ∷ head) w (k ∷ values) ps = written-reads (4 ∷ head) w (k ∷ values) ps fit all-fit in
+    rw (le-ltb (length s) 5 (omega arith), at 0 (r .fields), is s (r .fields)) (check-reads s (4 ∷ head) w (k ∷ values) ps make r p o)
+
+pub shape-encode : (f : Frame) → Valid f → shape (encode f) ≡ accepted f
+unfolding encode scan total shapeOfKind positive rises
+shape-encode (message t n ps) v =
+    accepts 1 _ countWidth _ ps (message t n) (lit≤ tt) (lit< tt, (v .time, (v .serial, (omega arith, tt)))) (v .pairs .fit) (v .pairs .above-zero) (v .pairs .in-order)
+    (λ s e i. check s messageHead countWidth (more (at 3 e) (v .pairs .least-one) i) (message (at 1 e i) (at 2 e i)))
+shape-encode (tick t) v =
+    accepts 2 _ 0 _ [] (λ _. tick t) (lit≤ tt) (lit< tt, (v, tt)) tt refl refl
+    (λ s e i. check s tickHead 0 0 (λ _. tick (at 1 e i)))
+shape-encode (register t n k ps) v =
+    accepts 3 _ weightWidth _ ps (register t n k) (lit≤ tt) (lit< tt, (v .time, (v .number, (omega arith, (omega arith, tt))))) (v .terms .fit) (v .terms .above-zero) (v .terms .in-order)
+    (λ s e i. check s registerHead weightWidth (more (at 4 e) (v .terms .least-one) i) (register (at 1 e i) (at 2 e i) (more (at 3 e) (v .k-least) i)))
+shape-encode (unregister t n) v =
+    accepts 4 _ 0 _ [] (λ _. unregister t n) (lit≤ tt) (lit< tt, (v .0, (v .1, tt))) tt refl refl
+    (λ s e i. check s unregisterHead 0 0 (λ _. unregister (at 1 e i) (at 2 e i)))
