@@ -1,8 +1,8 @@
 // Lent memory as big-endian words of four bytes.
 ghost use mathlib.Core.Path.{_≡_};
 ghost use Prim.Native.Nat.{ℕ, _+_, _*_, _<_, _≤_};
-ghost use lib.ListN.{length, getD, set};
-ghost use Rattle.memory.specs.Words.{words};
+ghost use lib.ListN.{length, getD};
+ghost use Rattle.memory.specs.Words.{words, putWord};
 
 fn wide(x: u8) -> u32
     ensures { λ r. ⌜ (r ≡ x) × (r < 256) ⌝ }
@@ -26,7 +26,7 @@ pub fn get(s: &[u8], i: usize) -> u32
 // The word at index i becomes v.
 pub fn put(s: &mut [u8], i: usize, v: u32)
     requires { ⌜ 4 * i + 4 ≤ length (now s) ⌝ }
-    ensures { λ _. ⌜ words (now (s .exit)) ≡ set (words (now (s .entry))) i v ⌝ }
+    ensures { λ _. ⌜ now (s .exit) ≡ putWord (now (s .entry)) i v ⌝ }
 {
     let at = 4 * i;
     s[at] = (v / 16777216 % 256) as u8;

@@ -20,7 +20,7 @@ numbers = 32
 
 -- the fixed length of the state memory (docs/STATE.md)
 abbrev pub stateLength : ℕ
-stateLength = 26128
+stateLength = 27232
 
 -- a posting written: serial and impact, four bytes each
 abbrev pub postingLength : ℕ

@@ -13,9 +13,12 @@ pub record Message : Type 0 where
   pub serial : ℕ
   pub pairs : List Pair
 
--- "whose age (clock less arrival time) is below T" is in force; any other is aged
+-- "whose age (clock less arrival time) is below T": with any other age an arrival at `time` is past
+abbrev pub past : ℕ → ℕ → ℕ → Bool
+past T clock time = leb T (clock - time)
+
 abbrev pub aged : ℕ → ℕ → Message → Bool
-aged T clock m = leb T (clock - m .time)
+aged T clock m = past T clock (m .time)
 
 -- "those of the last N accepted messages whose age .. is below T": a message after which `later` more were accepted
 abbrev pub standing : ℕ → ℕ → ℕ → ℕ → Message → Bool

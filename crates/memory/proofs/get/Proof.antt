@@ -1,7 +1,5 @@
 use native.Mathlib.Omega.{arith}
-use lib.ListN.{length, getD, set, length-set}
-use mathlib.Core.Path.{_≡_, sym, ap, _∙_, refl}
-use Rattle.memory.proofs.WordLaws.{get-word, set-word, word-of}
+use Rattle.memory.proofs.WordLaws.{get-word}
 use borrow.Author.Needs.{needs}
 use Rattle.memory.proofs.get.Statement.{statement}
 use Rattle.memory.proofs.get.Tie as tie

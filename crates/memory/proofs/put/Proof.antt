@@ -1,8 +1,7 @@
-use Rattle.memory.specs.Words.{words}
+use Rattle.memory.specs.Words.{putWord}
 use native.Mathlib.Omega.{arith}
-use lib.ListN.{length, getD, set, length-set}
-use mathlib.Core.Path.{_≡_, sym, ap, _∙_, refl}
-use Rattle.memory.proofs.WordLaws.{get-word, set-word, word-of}
+use lib.ListN.{length-set}
+use mathlib.Core.Path.{refl}
 use borrow.Author.Needs.{needs}
 use Rattle.memory.proofs.put.Statement.{statement}
 use Rattle.memory.proofs.put.Tie as tie
@@ -63,7 +62,8 @@ same-length c = search needs
 
 -- src/lib.rt:27:1
 returns : tie.Need-returns
-returns c = set-word (c .args .s .now) (c .args .i) _ _ _ _ (omega arith) ∙ ap (set (words (c .args .s .now)) (c .args .i)) (word-of (c .args .v) (omega arith))
+unfolding putWord
+returns c = refl
 
 pub put-spec : {M : Type 1} → statement M
 put-spec =

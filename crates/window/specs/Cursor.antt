@@ -1,0 +1,42 @@
+-- What each function of the window ensures. Assumes nothing.
+use Prim.Native.Nat.{ℕ, suc, _+_, _-_, _%_, _≤_, _<_}
+use mathlib.Core.Path.{_≡_}
+use mathlib.Core.List.{List, _++_}
+use lib.ListN.{getD}
+use Rattle.paper.specs.Window.{Message}
+use Rattle.memory.specs.Keeps.{Keeps}
+use Rattle.window.specs.Layout.{slots, slotWords, slotAt, clockAt, oldestAt, countAt}
+use Rattle.window.specs.Slot.{slot, stored, ring, window, next, dropPast}
+
+-- what is read of the header: itself where it is in range, and in range whatever memory holds
+pub record Loaded (w : List ℕ) (clock oldest count : ℕ) : Type 0 where
+  pub clock-is : clock ≡ getD w clockAt 0
+  pub oldest-below : oldest < slots
+  pub oldest-is : getD w oldestAt 0 < slots → oldest ≡ getD w oldestAt 0
+  pub count-below : count < slots
+  pub count-is : getD w countAt 0 < slots → count ≡ getD w countAt 0
+
+-- a window whose oldest slots left: those are the first of it
+pub record Moved (o n o′ n′ : ℕ) : Type 0 where
+  pub oldest-below : o′ < slots
+  pub count-most : n′ ≤ n
+  pub parts : ring o n ≡ ring o (n - n′) ++ ring o′ n′
+  pub end-same : (o′ + n′) % slots ≡ (o + n) % slots
+
+-- the window after past messages left
+pub record Advanced (w : List ℕ) (T o n clock clock′ o′ n′ : ℕ) : Type 0 where
+  pub clock-is : clock′ ≡ clock
+  pub moved : Moved o n o′ n′
+  pub shows : window w o′ n′ ≡ dropPast T clock (window w o n)
+
+-- the window with room for one more: the oldest left where N are there
+pub record Roomy (N clock o n clock′ o′ n′ : ℕ) : Type 0 where
+  pub clock-is : clock′ ≡ clock
+  pub moved : Moved o n o′ n′
+  pub room : n < N → n′ ≡ n
+  pub full : N ≤ n → 0 < n → n ≡ suc n′
+
+-- a message written into a slot
+pub record Written (j : ℕ) (m : Message) (w w′ : List ℕ) : Type 0 where
+  pub keeps : Keeps (slotAt j) (slotAt j + slotWords) w w′
+  pub holds : slot w′ j ≡ stored m

@@ -1,0 +1,187 @@
+// The window: a ring of message slots in the state memory, and the cursor that says which of them are in force.
+ghost use mathlib.Core.Path.{_≡_};
+ghost use Prim.Native.Nat.{ℕ, _+_, _*_, _%_, _<_, _≤_};
+ghost use lib.ListN.{length, getD};
+ghost use Rattle.paper.specs.Window.{past, Message};
+ghost use Rattle.paper.specs.Write.{side-by-side};
+ghost use Rattle.paper.specs.Log.{stateLength};
+ghost use Rattle.memory.specs.Words.{words};
+ghost use Rattle.impact.specs.Cell.{Looked};
+ghost use Rattle.window.specs.Layout.{slots};
+ghost use Rattle.window.specs.Slot.{slot, window, next, holdsSerial};
+ghost use Rattle.window.specs.Cursor.{Loaded, Advanced, Roomy, Written};
+
+use impact::Impact;
+
+// How long the state memory is, in bytes.
+pub const STATE: usize = 27232;
+
+// How many slots the ring has: one more than messages can be in force.
+pub const SLOTS: usize = 257;
+
+// Where the slots start, and how long each is, in words: time, serial, number of cells, the cells.
+const RING: usize = 5;
+
+const SLOT: usize = 19;
+
+// Whether an arrival at `time` is past at the clock.
+fn is_past(life: u32, clock: u32, time: u32) -> bool
+    ensures { λ r. ⌜ r ≡ past life clock time ⌝ }
+{
+    if clock < time {
+        return life == 0;
+    }
+    life <= clock - time
+}
+
+// The slot after a slot.
+pub fn following(j: usize) -> usize
+    requires { ⌜ j < slots ⌝ }
+    ensures { λ r. ⌜ r ≡ next j ⌝ }
+{
+    (j + 1) % SLOTS
+}
+
+// The time of the message in slot j.
+fn time_in(state: &[u8], j: usize) -> u32
+    requires { ⌜ (length (now state) ≡ stateLength) × (j < slots) ⌝ }
+    ensures { λ r. ⌜ r ≡ slot (words (now (state .entry))) j .time ⌝ }
+{
+    memory::get(state, RING + SLOT * j)
+}
+
+// The serial of the message in slot j.
+pub fn serial_in(state: &[u8], j: usize) -> u32
+    requires { ⌜ (length (now state) ≡ stateLength) × (j < slots) ⌝ }
+    ensures { λ r. ⌜ r ≡ slot (words (now (state .entry))) j .serial ⌝ }
+{
+    memory::get(state, RING + SLOT * j + 1)
+}
+
+// The impacts of the message in slot j in the first n terms of a query.
+pub fn impacts_in(state: &[u8], j: usize, terms: [u32; 8], n: usize) -> [u32; 8]
+    requires { ⌜ (length (now state) ≡ stateLength) × (j < slots) × (n ≤ 8) ⌝ }
+    ensures { λ r. ⌜ Looked (slot (words (now (state .entry))) j .cells) terms n r ⌝ }
+{
+    let at = RING + SLOT * j;
+    let mut size = memory::get(state, at + 2) as usize;
+    if 16 < size {
+        size = 16;
+    }
+    impact::impacts(state, at + 3, size, terms, n)
+}
+
+pub struct Cursor {
+    pub clock: u32,
+    pub oldest: usize,
+    pub count: usize,
+}
+
+impl Cursor {
+    // The cursor that the header says, brought into range.
+    pub fn load(state: &[u8]) -> Cursor
+        requires { ⌜ length (now state) ≡ stateLength ⌝ }
+        ensures { λ r. ⌜ Loaded (words (now (state .entry))) (r .clock) (r .oldest) (r .count) ⌝ }
+    {
+        let clock = memory::get(state, 2);
+        let oldest = memory::get(state, 3) as usize;
+        let count = memory::get(state, 4) as usize;
+        Cursor {
+            clock,
+            oldest: oldest % SLOTS,
+            count: count % SLOTS,
+        }
+    }
+
+    // The clock moves on, and past messages go.
+    pub fn advanced(self, state: &[u8], life: u32, clock: u32) -> Cursor
+        requires { ⌜ (length (now state) ≡ stateLength) × (self .oldest < slots) ⌝ }
+        ensures { λ r. ⌜ Advanced (words (now (state .entry))) life (self .oldest) (self .count) clock (r .clock) (r .oldest) (r .count) ⌝ }
+    {
+        let mut oldest = self.oldest;
+        let mut count = self.count;
+        while 0 < count {
+            let time = time_in(state, oldest);
+            if !is_past(life, clock, time) {
+                return Cursor {
+                    clock,
+                    oldest,
+                    count,
+                };
+            }
+            oldest = following(oldest);
+            count -= 1;
+        }
+        Cursor {
+            clock,
+            oldest,
+            count,
+        }
+    }
+
+    // Room for one more message: the oldest goes where `capacity` are there.
+    pub fn roomy(self, capacity: u32) -> Cursor
+        requires { ⌜ (self .oldest < slots) × (self .count < slots) ⌝ }
+        ensures { λ r. ⌜ Roomy capacity (self .clock) (self .oldest) (self .count) (r .clock) (r .oldest) (r .count) ⌝ }
+    {
+        let count = self.count;
+        if count < capacity as usize {
+            return self;
+        }
+        if count == 0 {
+            return self;
+        }
+        Cursor {
+            clock: self.clock,
+            oldest: following(self.oldest),
+            count: count - 1,
+        }
+    }
+}
+
+// Whether one of the `count` messages from slot `first` on has the serial.
+pub fn has_serial(state: &[u8], first: usize, count: usize, serial: u32) -> bool
+    requires { ⌜ (length (now state) ≡ stateLength) × (first < slots) ⌝ }
+    ensures { λ r. ⌜ r ≡ holdsSerial serial (window (words (now (state .entry))) first count) ⌝ }
+{
+    let mut j = first;
+    let mut left = count;
+    while 0 < left {
+        if serial_in(state, j) == serial {
+            return true;
+        }
+        j = following(j);
+        left -= 1;
+    }
+    false
+}
+
+// The message's cells, from word `at` on.
+fn put_cells(state: &mut [u8], at: usize, m: usize, terms: [u32; 16], counts: [u32; 16])
+    requires { ⌜ (length (now state) ≡ stateLength) × (at + m ≤ 6808) × (m ≤ 16) ⌝ }
+    requires { ⌜ ((i : ℕ) → i < m → (getD terms i 0 < 1024) × (getD counts i 0 < 256)) ⌝ }
+{
+    let squares = impact::squared(counts, m);
+    let mut i: usize = 0;
+    while i < m {
+        let term = terms[i];
+        let count = counts[i];
+        let impact = Impact::of(count, squares);
+        let cell = impact::cell(term, count, impact.value);
+        memory::put(state, at + i, cell);
+        i += 1;
+    }
+}
+
+// A message takes slot j.
+pub fn put_message(state: &mut [u8], j: usize, time: u32, serial: u32, m: usize, terms: [u32; 16], counts: [u32; 16])
+    requires { ⌜ (length (now state) ≡ stateLength) × (j < slots) × (m ≤ 16) ⌝ }
+    requires { ⌜ ((i : ℕ) → i < m → (getD terms i 0 < 1024) × (getD counts i 0 < 256)) ⌝ }
+    ensures { λ _. ⌜ Written j (record { time = time; serial = serial; pairs = side-by-side m terms counts }) (words (now (state .entry))) (words (now (state .exit))) ⌝ }
+{
+    let at = RING + SLOT * j;
+    memory::put(state, at, time);
+    memory::put(state, at + 1, serial);
+    memory::put(state, at + 2, m as u32);
+    put_cells(state, at + 3, m, terms, counts);
+}
