@@ -1,1 +1,3 @@
+pub mod CellLaws
 pub mod Halving
+pub mod Merge

@@ -2,9 +2,11 @@
 use Prim.Native.Nat.{ℕ, zero, suc, _+_, _*_, _/_, _%_, _≤_, _<_}
 use mathlib.Core.Path.{_≡_}
 use mathlib.Core.Bool.{cond}
-use mathlib.Core.List.{List, [], _∷_}
+use mathlib.Core.List.{List, [], _∷_, map}
 use lib.ListN.{length, getD}
 use lib.Dec.{eqb}
+use Rattle.paper.specs.Frame.{Pair}
+use Rattle.paper.specs.Impact.{impact, squares}
 
 -- ten bits of term, eight of count, fourteen of impact
 abbrev pub packed : ℕ → ℕ → ℕ → ℕ
@@ -18,6 +20,17 @@ cellCount c = c / 16384 % 256
 
 abbrev pub cellImpact : ℕ → ℕ
 cellImpact c = c % 16384
+
+-- the cell of a pair of a message whose counts squared sum to n
+abbrev pub cellOf : ℕ → Pair → ℕ
+cellOf n p = packed (p .term) (p .amount) (impact (p .amount) n)
+
+-- the cells of a message, and the pairs of the message with these cells
+unfoldable pub cellsOf : List Pair → List ℕ
+cellsOf ps = map (cellOf (squares ps)) ps
+
+unfoldable pub pairsOfCells : List ℕ → List Pair
+pairsOfCells cs = map (λ c. record { term = cellTerm c; amount = cellCount c }) cs
 
 -- the sum of the first m numbers squared
 unfoldable pub squaresOf : ℕ → List ℕ → ℕ

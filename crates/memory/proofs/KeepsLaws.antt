@@ -1,12 +1,13 @@
 -- Laws of what a writer leaves alone: one for each way of writing and one for each way of reading. Assumes nothing.
-use Prim.Native.Nat.{ℕ, suc, _+_, _≤_, _<_}
+use Prim.Native.Nat.{ℕ, suc, _+_, _*_, _≤_, _<_}
 use native.Mathlib.Omega.{arith}
-use mathlib.Core.Path.{_≡_, refl, sym, _∙_}
+use mathlib.Core.Path.{_≡_, refl, _∙_}
 use mathlib.Core.Logic.{_⊎_, ⊎-elim}
 use mathlib.Core.List.{List}
 use lib.ListN.{length, getD, set, take, drop, length-set, length-take, length-drop}
 use lib.Seq.{getD-set-other, getD-take, getD-drop, ext-getD}
 use Rattle.memory.specs.Keeps.{Keeps}
+use Rattle.memory.specs.Words.{putWord}
 
 pub keeps-refl : (a e : ℕ) (s : List ℕ) → Keeps a e s s
 keeps-refl a e s = record { long = refl; below = λ i h. refl; above = λ i h. refl }
@@ -24,21 +25,32 @@ keeps-set s i v = record {
   above = λ j h. getD-set-other s i j v 0 (omega arith);
 }
 
+-- one element more is written
+pub keeps-more : {a e : ℕ} {s t : List ℕ} → Keeps a e s t → (i v : ℕ) → a ≤ i → i < e → Keeps a e s (set t i v)
+keeps-more {t = t} p i v l h = keeps-trans p (keeps-wider l h (keeps-set t i v))
+
+pub put-keeps : (s : List ℕ) (i v : ℕ) → Keeps (4 * i) (4 * i + 4) s (putWord s i v)
+unfolding putWord
+put-keeps s i v =
+    keeps-more (keeps-more (keeps-more (keeps-more (keeps-refl (4 * i) (4 * i + 4) s) (4 * i) _ (omega arith) (omega arith)) (4 * i + 1) _ (omega arith) (omega arith))
+    (4 * i + 2) _ (omega arith) (omega arith)) (4 * i + 3) _ (omega arith) (omega arith)
+
 -- one element outside of what was written
 pub keeps-at : {a e : ℕ} {s t : List ℕ} → Keeps a e s t → (i : ℕ) → (i < a) ⊎ (e ≤ i) → getD t i 0 ≡ getD s i 0
 keeps-at p i = ⊎-elim (p .below i) (p .above i)
 
+-- a part is its elements
+pub same-part : (s t : List ℕ) (i n : ℕ) → length (take n (drop i s)) ≡ length (take n (drop i t)) → ((j : ℕ) → i ≤ j → j < i + n → getD s j 0 ≡ getD t j 0)
+    → take n (drop i s) ≡ take n (drop i t)
+same-part s t i n long same = ext-getD 0 (take n (drop i s)) (take n (drop i t)) long at-j
+  where
+    at-j : (j : ℕ) → j < length (take n (drop i s)) → getD (take n (drop i s)) j 0 ≡ getD (take n (drop i t)) j 0
+    at-j j h =
+        let k : j < n = let l = length-take n (drop i s) in omega arith in
+        simp (getD-take, getD-drop) (same (i + j) (omega arith) (omega arith))
+
 -- a part outside of what was written
 pub keeps-part : {a e : ℕ} {s t : List ℕ} → Keeps a e s t → (i n : ℕ) → (i + n ≤ a) ⊎ (e ≤ i) → take n (drop i t) ≡ take n (drop i s)
-keeps-part {a} {e} {s} {t} p i n d = ext-getD 0 (take n (drop i t)) (take n (drop i s)) long same
-  where
-    long : length (take n (drop i t)) ≡ length (take n (drop i s))
-    long = let l = p .long in simp (length-take, length-drop) (omega arith)
-
-    same : (j : ℕ) → j < length (take n (drop i t)) → getD (take n (drop i t)) j 0 ≡ getD (take n (drop i s)) j 0
-    same j h =
-        let k : j < n = let l = length-take n (drop i t) in omega arith in
-        getD-take n (drop i t) j 0 k
-        ∙ getD-drop i t j 0
-        ∙ ⊎-elim (λ b. p .below (i + j) (omega arith)) (λ b. p .above (i + j) (omega arith)) d
-        ∙ sym (getD-take n (drop i s) j 0 k ∙ getD-drop i s j 0)
+keeps-part {s = s} {t = t} p i n d =
+    same-part t s i n (simp (length-take, length-drop) (omega arith))
+    (λ j l h. ⊎-elim (λ b. p .below j (omega arith)) (λ b. p .above j (omega arith)) d)

@@ -1,12 +1,14 @@
 -- Laws of words: a word is its four bytes, a word written is that word alone, and words decide the bytes. Assumes nothing.
-use Prim.Native.Nat.{ℕ, zero, suc, _+_, _*_, _/_, _%_, _≤_, _<_}
-use native.Mathlib.Nat.{div-add-mod'}
+use Prim.Native.Nat.{ℕ, zero, suc, _+_, _*_, _/_, _%_, _-_, _≤_, _<_}
+use native.Mathlib.Nat.{add-zero, div-add-mod, div-add-mod'}
 use native.Mathlib.Numerals.{towards-suc}
 use native.Mathlib.Omega.{arith}
-use mathlib.Core.Path.{_≡_, refl, ap, _∙_}
+use mathlib.Core.Path.{_≡_, refl, sym, ap, _∙_}
 use mathlib.Core.List.{List, [], _∷_}
-use lib.ListN.{length, getD, set}
+use lib.ListN.{length, getD, set, take, drop, length-set, length-take, length-drop}
+use lib.Seq.{ext-getD}
 use Rattle.memory.specs.Words.{word, words, putWord}
+use Rattle.memory.proofs.KeepsLaws.{same-part}
 
 four : (i : ℕ) → 4 * suc i ≡ suc (suc (suc (suc (4 * i))))
 four i = omega arith
@@ -58,3 +60,49 @@ words-length (a ∷ []) = refl
 words-length (a ∷ b ∷ []) = refl
 words-length (a ∷ b ∷ c ∷ []) = refl
 words-length (a ∷ b ∷ c ∷ d ∷ s) = let ih = words-length s in omega arith
+
+pub put-length : (s : List ℕ) (i v : ℕ) → length (putWord s i v) ≡ length s
+unfolding putWord
+put-length s i v = simp length-set
+
+pub zero-word : (s : List ℕ) (i : ℕ) → 4 * i + 4 ≤ length s → ((j : ℕ) → 4 * i ≤ j → j < 4 * i + 4 → getD s j 0 ≡ 0) → getD (words s) i 0 ≡ 0
+zero-word s i h z =
+    rw (
+      get-word s i h,
+      z (4 * i) (omega arith) (omega arith),
+      z (4 * i + 1) (omega arith) (omega arith),
+      z (4 * i + 2) (omega arith) (omega arith),
+      z (4 * i + 3) (omega arith) (omega arith),
+    ) refl
+
+-- equal words are equal bytes
+word-bytes : {a b c d a′ b′ c′ d′ : ℕ} → b < 256 → c < 256 → d < 256 → b′ < 256 → c′ < 256 → d′ < 256 → word a b c d ≡ word a′ b′ c′ d′
+    → (a ≡ a′) × (b ≡ b′) × (c ≡ c′) × (d ≡ d′)
+word-bytes hb hc hd hb′ hc′ hd′ e = (omega arith, omega arith, omega arith, omega arith)
+
+module _ (s t : List ℕ) (bs : (i : ℕ) → getD s i 0 < 256) (bt : (i : ℕ) → getD t i 0 < 256) where
+  same-byte : (j : ℕ) → 4 * (j / 4) + 4 ≤ length s → 4 * (j / 4) + 4 ≤ length t → getD (words s) (j / 4) 0 ≡ getD (words t) (j / 4) 0 → getD s j 0 ≡ getD t j 0
+  same-byte j hs ht e = rw (div-add-mod j 4) at (go (j % 4) (omega arith))
+    where
+      i : ℕ
+      i = j / 4
+
+      all : (getD s (4 * i) 0 ≡ getD t (4 * i) 0) × (getD s (4 * i + 1) 0 ≡ getD t (4 * i + 1) 0) × (getD s (4 * i + 2) 0 ≡ getD t (4 * i + 2) 0)
+          × (getD s (4 * i + 3) 0 ≡ getD t (4 * i + 3) 0)
+      all = word-bytes (bs _) (bs _) (bs _) (bt _) (bt _) (bt _) (sym (get-word s i hs) ∙ e ∙ get-word t i ht)
+
+      go : (r : ℕ) → r < 4 → getD s (4 * i + r) 0 ≡ getD t (4 * i + r) 0
+      go zero h = rw add-zero (all .0)
+      go (suc zero) h = all .1
+      go (suc (suc zero)) h = all .2
+      go (suc (suc (suc zero))) h = all .3
+      go (suc (suc (suc (suc r)))) h = absurd (omega arith)
+
+  pub same-bytes : (a e : ℕ) → 4 * e ≤ length s → 4 * e ≤ length t → ((i : ℕ) → a ≤ i → i < e → getD (words s) i 0 ≡ getD (words t) i 0)
+      → take (4 * (e - a)) (drop (4 * a) s) ≡ take (4 * (e - a)) (drop (4 * a) t)
+  same-bytes a e hs ht w =
+      same-part s t (4 * a) (4 * (e - a)) (simp (length-take, length-drop) (omega arith))
+      (λ j l h. same-byte j (omega arith) (omega arith) (w (j / 4) (omega arith) (omega arith)))
+
+  pub words-same : length s ≡ length t → length s % 4 ≡ 0 → words s ≡ words t → s ≡ t
+  words-same l m w = ext-getD 0 s t l (λ j h. same-byte j (omega arith) (omega arith) (ap (λ (x : List ℕ). getD x (j / 4) 0) w))

@@ -166,22 +166,28 @@ both-nil : {A : Type 0} (a b : List A) → a ++ b ≡ [] → (a ≡ []) × (b �
 both-nil [] b e = (refl, e)
 both-nil (x ∷ a) b e = absurd (cons≢nil e)
 
--- THE LAW: a settled query that a change of the window doesn't reach is settled after it, with nothing kept changed
-pub skip : (q : Query) (gone stay come : List Message) (kept : Kept) → Settled q (gone ++ stay) kept
-    → reached (q .terms) (kept .thresholds) (gone ++ come) ≡ false → Settled q (stay ++ come) kept
-skip q gone stay come kept s e = settled-same q (gone ++ stay) (stay ++ come) kept s (before ∙ sym after)
+-- a change of the window that doesn't reach the query leaves its candidates
+pub same-candidates : (qs : List Pair) (hs : List ℕ) (gone stay come : List Message) → reached qs hs (gone ++ come) ≡ false
+    → candidates qs hs (gone ++ stay) ≡ candidates qs hs (stay ++ come)
+same-candidates qs hs gone stay come e = before ∙ sym after
   where
     those : List Message → List Message
-    those = candidates (q .terms) (kept .thresholds)
+    those = candidates qs hs
 
     joined : (a b : List Message) → those (a ++ b) ≡ those a ++ those b
-    joined = select-append (λ m. exceeds (q .terms) (kept .thresholds) (m .pairs))
+    joined = select-append (λ m. exceeds qs hs (m .pairs))
 
     neither : (those gone ≡ []) × (those come ≡ [])
-    neither = both-nil (those gone) (those come) (sym (joined gone come) ∙ unreached (q .terms) (kept .thresholds) (gone ++ come) e)
+    neither = both-nil (those gone) (those come) (sym (joined gone come) ∙ unreached qs hs (gone ++ come) e)
 
     before : those (gone ++ stay) ≡ those stay
     before = joined gone stay ∙ ap (λ l. l ++ those stay) (neither .0)
 
     after : those (stay ++ come) ≡ those stay
     after = joined stay come ∙ ap (λ l. those stay ++ l) (neither .1) ∙ append-nil (those stay)
+
+-- THE LAW: a settled query that a change of the window doesn't reach is settled after it, with nothing kept changed
+pub skip : (q : Query) (gone stay come : List Message) (kept : Kept) → Settled q (gone ++ stay) kept
+    → reached (q .terms) (kept .thresholds) (gone ++ come) ≡ false → Settled q (stay ++ come) kept
+skip q gone stay come kept s e =
+    settled-same q (gone ++ stay) (stay ++ come) kept s (same-candidates (q .terms) (kept .thresholds) gone stay come e)

@@ -1,91 +1,101 @@
+-- `impacts` meets its contract. Assumes nothing.
+use Prim.Native.Nat.{_+_, _-_, _≤_, _<_}
+use native.Mathlib.Omega.{arith}
+use mathlib.Core.Path.{_≡_}
+use lib.ListN.{length, getD, take, drop}
 use borrow.Author.Needs.{needs}
+use Rattle.memory.specs.Words.{words}
+use Rattle.impact.proofs.Merge.{Walked, start, skip-cell, skip-term, take-both, finish, cells-length, cell-at}
 use Rattle.impact.proofs.impacts.Statement.{statement}
 use Rattle.impact.proofs.impacts.Tie as tie
-use Rattle.impact.proofs.impacts.Reads as reads
-use Rattle.impact.proofs.impacts.Lts as lts
-use Rattle.memory.proofs.get.Reads as get-reads
 
 abbrev Inv-loop : tie.InvT-loop
-Inv-loop s at m n terms found₀ i₀ q₀ found i q = ?
+Inv-loop s at m n terms found₀ i₀ q₀ found i q = (i ≤ m) × (q ≤ n) × Walked (take m (drop at (words s))) terms n i q found
 
 abbrev μ-loop : tie.MeasureT-loop
-μ-loop s at m n terms found₀ i₀ q₀ found i q = ?
+μ-loop s at m n terms found₀ i₀ q₀ found i q = (m - i) + (n - q)
 
--- src/lib.rt:71:5
 loop-holds : tie.Need-loop-holds Inv-loop μ-loop
-loop-holds c = search needs
+loop-holds c = (omega arith, omega arith, start)
 
--- src/lib.rt:73:13
 returns : tie.Need-returns Inv-loop μ-loop
-returns c = search needs
+returns c = finish (c .before .before .loop .inv .2) (omega arith) (λ more. absurd (omega arith))
 
--- src/lib.rt:75:32
 add-get : tie.Need-add-get Inv-loop μ-loop
 add-get c = search needs
 
--- src/lib.rt:75:13
 get-requires : tie.Need-get-requires Inv-loop μ-loop
 get-requires c κs = search needs
 
--- src/lib.rt:77:21
 mul-wants : tie.Need-mul-wants Inv-loop μ-loop
 mul-wants c = search needs
 
--- src/lib.rt:77:21
 array-read-wants : tie.Need-array-read-wants Inv-loop μ-loop
 array-read-wants c = search needs
 
--- src/lib.rt:79:13
+-- what was read is the cell at i
+turn : (c : tie.After-get Inv-loop μ-loop)
+    → let at-loop = c .before .before .before in
+    let a = at-loop .before .before .args in
+    let cs = take (a .m) (drop (a .at) (words (a .s .now))) in
+    (at-loop .loop .i < length cs) × (getD cs (at-loop .loop .i) 0 ≡ c .get .result)
+turn c =
+    let at-loop = c .before .before .before in
+    let a = at-loop .before .before .args in
+    let l = cells-length (a .s .now) (a .at) (a .m) (omega arith) in
+    let e = cell-at (a .s .now) (a .at) (a .m) (at-loop .loop .i) (omega arith) in
+    (omega arith, omega arith)
+
 add-i : tie.Need-add-i Inv-loop μ-loop
 add-i c = search needs
 
--- src/lib.rt:71:5
 loop-less : tie.Need-loop-less Inv-loop μ-loop
 loop-less c = search needs
 
--- src/lib.rt:71:5
 loop-again : tie.Need-loop-again Inv-loop μ-loop
-loop-again c = search needs
+loop-again c =
+    let w = c .before .before .before .before .loop .inv .2 in
+    let f = turn (c .before) in
+    (omega arith, omega arith, skip-cell w (omega arith) (omega arith) (omega arith))
 
--- src/lib.rt:81:13
 add-q : tie.Need-add-q Inv-loop μ-loop
 add-q c = search needs
 
--- src/lib.rt:71:5
 loop-less-2 : tie.Need-loop-less-2 Inv-loop μ-loop
 loop-less-2 c = search needs
 
--- src/lib.rt:71:5
 loop-again-2 : tie.Need-loop-again-2 Inv-loop μ-loop
-loop-again-2 c = search needs
+loop-again-2 c =
+    let w = c .before .before .before .before .before .loop .inv .2 in
+    let f = turn (c .before .before) in
+    (omega arith, omega arith, skip-term w (omega arith) (omega arith) (omega arith))
 
--- src/lib.rt:83:13
 mul-found : tie.Need-mul-found Inv-loop μ-loop
 mul-found c = search needs
 
--- src/lib.rt:83:13
 array-write-found : tie.Need-array-write-found Inv-loop μ-loop
 array-write-found c = search needs
 
--- src/lib.rt:84:13
 add-i-2 : tie.Need-add-i-2 Inv-loop μ-loop
 add-i-2 c = search needs
 
--- src/lib.rt:85:13
 add-q-2 : tie.Need-add-q-2 Inv-loop μ-loop
 add-q-2 c = search needs
 
--- src/lib.rt:71:5
 loop-less-3 : tie.Need-loop-less-3 Inv-loop μ-loop
 loop-less-3 c = search needs
 
--- src/lib.rt:71:5
 loop-again-3 : tie.Need-loop-again-3 Inv-loop μ-loop
-loop-again-3 c = search needs
+loop-again-3 c =
+    let w = c .before .before .before .before .before .loop .inv .2 in
+    let f = turn (c .before .before) in
+    (omega arith, omega arith, take-both w (omega arith) (omega arith) _ (omega arith) (omega arith) (omega arith))
 
--- src/lib.rt:64:1
 returns-2 : tie.Need-returns-2 Inv-loop μ-loop
-returns-2 c = search needs
+returns-2 c =
+    let a = c .before .before .before .args in
+    let l = cells-length (a .s .now) (a .at) (a .m) (omega arith) in
+    finish (c .before .loop .inv .2) (omega arith) (λ _. omega arith)
 
 pub impacts-spec : {M : Type 1} → statement M
 impacts-spec =

@@ -1,50 +1,57 @@
+-- `squared` meets its contract. Assumes nothing.
+use Prim.Native.Nat.{_*_, _-_, _≤_, _<_}
+use native.Mathlib.Nat.{mul-le-mul}
+use native.Mathlib.Omega.{arith}
+use mathlib.Core.Path.{_≡_}
+use lib.ListN.{getD}
 use borrow.Author.Needs.{needs}
+use Rattle.impact.specs.Cell.{squaresOf}
+use Rattle.impact.proofs.CellLaws.{squares-more}
 use Rattle.impact.proofs.squared.Statement.{statement}
 use Rattle.impact.proofs.squared.Tie as tie
-use Rattle.impact.proofs.squared.Reads as reads
-use Rattle.impact.proofs.squared.Lts as lts
 
 abbrev Inv-loop : tie.InvT-loop
-Inv-loop m counts sum₀ i₀ sum i = ?
+Inv-loop m counts sum₀ i₀ sum i = (i ≤ m) × (sum ≡ squaresOf i counts) × (sum ≤ i * 65025)
 
 abbrev μ-loop : tie.MeasureT-loop
-μ-loop m counts sum₀ i₀ sum i = ?
+μ-loop m counts sum₀ i₀ sum i = m - i
 
--- src/lib.rt:55:5
 loop-holds : tie.Need-loop-holds Inv-loop μ-loop
-loop-holds c = search needs
+unfolding squaresOf
+loop-holds c = (omega arith, omega arith, omega arith)
 
--- src/lib.rt:56:17
 mul-f : tie.Need-mul-f Inv-loop μ-loop
 mul-f c = search needs
 
--- src/lib.rt:56:17
 array-read-f : tie.Need-array-read-f Inv-loop μ-loop
 array-read-f c = search needs
 
--- src/lib.rt:57:16
+-- a count and its square
+count-most : (c : tie.In-loop Inv-loop μ-loop) → let f = getD (c .before .before .args .t1) (c .before .loop .i) 0 in (f < 256) × (f * f ≤ 65025)
+count-most c = let h = c .before .before .pre .1 (c .before .loop .i) (omega arith) in (h, mul-le-mul {n₂ = 255} {m₂ = 255} (omega arith) (omega arith))
+
 mul-sum : tie.Need-mul-sum Inv-loop μ-loop
-mul-sum c = search needs
+mul-sum c = let h = count-most c in search needs
 
--- src/lib.rt:57:9
 add-sum : tie.Need-add-sum Inv-loop μ-loop
-add-sum c = search needs
+add-sum c = let h = count-most c in search needs
 
--- src/lib.rt:58:9
 add-i : tie.Need-add-i Inv-loop μ-loop
 add-i c = search needs
 
--- src/lib.rt:55:5
 loop-less : tie.Need-loop-less Inv-loop μ-loop
 loop-less c = search needs
 
--- src/lib.rt:55:5
 loop-again : tie.Need-loop-again Inv-loop μ-loop
-loop-again c = search needs
+loop-again c =
+    let h = count-most c in
+    let m = squares-more (c .before .loop .i) (c .before .before .args .t1) in
+    (omega arith, omega arith, omega arith)
 
--- src/lib.rt:49:1
 returns : tie.Need-returns Inv-loop μ-loop
-returns c = search needs
+returns c =
+    let e : c .before .loop .i ≡ c .before .before .args .m = omega arith in
+    rw (← e) (omega arith)
 
 pub squared-spec : {M : Type 1} → statement M
 squared-spec =

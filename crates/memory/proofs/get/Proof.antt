@@ -1,11 +1,9 @@
+-- `memory::get` meets its contract. Assumes nothing.
 use native.Mathlib.Omega.{arith}
 use Rattle.memory.proofs.WordLaws.{get-word}
 use borrow.Author.Needs.{needs}
 use Rattle.memory.proofs.get.Statement.{statement}
 use Rattle.memory.proofs.get.Tie as tie
-use Rattle.memory.proofs.get.Reads as reads
-use Rattle.memory.proofs.get.Lts as lts
-use Rattle.memory.proofs.wide.Reads as wide-reads
 
 -- src/lib.rt:18:14
 mul-at : tie.Need-mul-at

@@ -1,3 +1,4 @@
+-- `memory::put` meets its contract. Assumes nothing.
 use Rattle.memory.specs.Words.{putWord}
 use native.Mathlib.Omega.{arith}
 use lib.ListN.{length-set}
@@ -5,8 +6,6 @@ use mathlib.Core.Path.{refl}
 use borrow.Author.Needs.{needs}
 use Rattle.memory.proofs.put.Statement.{statement}
 use Rattle.memory.proofs.put.Tie as tie
-use Rattle.memory.proofs.put.Reads as reads
-use Rattle.memory.proofs.put.Lts as lts
 
 -- src/lib.rt:31:14
 mul-at : tie.Need-mul-at

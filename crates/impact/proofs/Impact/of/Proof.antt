@@ -1,12 +1,11 @@
+-- `Impact::of` meets its contract. Assumes nothing.
 use Prim.Native.Nat.{_+_, _*_, _-_, _/_, _≤_}
 use native.Mathlib.Nat.{mul-le-mul}
 use native.Mathlib.Omega.{arith}
-use Rattle.impact.proofs.Halving.{Between, start, lower, upper, found}
 use borrow.Author.Needs.{needs}
+use Rattle.impact.proofs.Halving.{Between, start, lower, upper, found}
 use Rattle.impact.proofs.Impact.of.Statement.{statement}
 use Rattle.impact.proofs.Impact.of.Tie as tie
-use Rattle.impact.proofs.Impact.of.Reads as reads
-use Rattle.impact.proofs.Impact.of.Lts as lts
 
 abbrev Inv-loop : tie.InvT-loop
 Inv-loop count squares reach limit n low₀ high₀ low high = Between count n low high
@@ -14,46 +13,36 @@ Inv-loop count squares reach limit n low₀ high₀ low high = Between count n l
 abbrev μ-loop : tie.MeasureT-loop
 μ-loop count squares reach limit n low₀ high₀ low high = high - low
 
--- src/lib.rt:19:22
 cast-reach : tie.Need-cast-reach Inv-loop μ-loop
 cast-reach c = search needs
 
--- src/lib.rt:19:21
 mul-reach : tie.Need-mul-reach Inv-loop μ-loop
 mul-reach c = search needs
 
--- src/lib.rt:20:21
 mul-limit : tie.Need-mul-limit Inv-loop μ-loop
 mul-limit c = let h : 1000 * c .args .count * (1000 * c .args .count) ≤ 255000 * 255000 = mul-le-mul {n₂ = 255000} {m₂ = 255000} (omega arith) (omega arith) in omega arith
 
--- src/lib.rt:23:29
 add-high : tie.Need-add-high Inv-loop μ-loop
 add-high c = search needs
 
--- src/lib.rt:24:9
 loop-holds : tie.Need-loop-holds Inv-loop μ-loop
 loop-holds c = start (c .args .count) (c .args .squares)
 
--- src/lib.rt:24:19
 sub-loop : tie.Need-sub-loop Inv-loop μ-loop
 sub-loop c = search needs
 
--- src/lib.rt:25:24
 add-mid : tie.Need-add-mid Inv-loop μ-loop
 add-mid c = search needs
 
--- src/lib.rt:26:21
 cast-m : tie.Need-cast-m Inv-loop μ-loop
 cast-m c = search needs
 
--- src/lib.rt:27:16
 mul-if1 : tie.Need-mul-if1 Inv-loop μ-loop
 mul-if1 c =
     let l = c .before .loop in
     let h : (l .low + l .high) / 2 * ((l .low + l .high) / 2) ≤ 1001 * 1001 = mul-le-mul {n₂ = 1001} {m₂ = 1001} (omega arith) (omega arith) in
     omega arith
 
--- src/lib.rt:27:16
 mul-if1-2 : tie.Need-mul-if1-2 Inv-loop μ-loop
 mul-if1-2 c =
     let l = c .before .loop in
@@ -62,23 +51,18 @@ mul-if1-2 c =
     mul-le-mul {n₂ = 1001 * 1001} {m₂ = 4294967295} (mul-le-mul {n₂ = 1001} {m₂ = 1001} (omega arith) (omega arith)) (omega arith) in
     omega arith
 
--- src/lib.rt:24:9
 loop-less : tie.Need-loop-less Inv-loop μ-loop
 loop-less c = search needs
 
--- src/lib.rt:24:9
 loop-again : tie.Need-loop-again Inv-loop μ-loop
 loop-again c = lower _ _ _ _ _ (c .before .before .loop .inv) (omega arith) (omega arith) (omega arith)
 
--- src/lib.rt:24:9
 loop-less-2 : tie.Need-loop-less-2 Inv-loop μ-loop
 loop-less-2 c = search needs
 
--- src/lib.rt:24:9
 loop-again-2 : tie.Need-loop-again-2 Inv-loop μ-loop
 loop-again-2 c = upper _ _ _ _ _ (c .before .before .loop .inv) (omega arith) (omega arith) (omega arith)
 
--- src/lib.rt:15:5
 returns : tie.Need-returns Inv-loop μ-loop
 returns c = found _ _ _ _ (c .before .loop .inv) (omega arith)
 

@@ -1,0 +1,32 @@
+-- How a stored message matches a query: paper's score and thresholds, read off cells. Assumes nothing.
+use Prim.Native.Nat.{ℕ, _+_, _*_}
+use mathlib.Core.Bool.{Bool, false, _||_}
+use mathlib.Core.List.{List, [], _∷_}
+use lib.Dec.{ltb}
+use Rattle.paper.specs.Frame.{Pair}
+use Rattle.paper.specs.Rank.{Line}
+use Rattle.impact.specs.Cell.{lookup, RisingCells}
+use Rattle.window.specs.Slot.{Slot}
+
+unfoldable pub scoreCells : List Pair → List ℕ → ℕ
+scoreCells [] cs = 0
+scoreCells (q ∷ qs) cs = q .amount * lookup (q .term) cs + scoreCells qs cs
+
+unfoldable pub exceedsCells : List Pair → List ℕ → List ℕ → Bool
+exceedsCells [] hs cs = false
+exceedsCells (q ∷ qs) [] cs = false
+exceedsCells (q ∷ qs) (h ∷ hs) cs = ltb h (lookup (q .term) cs) || exceedsCells qs hs cs
+
+-- whether one of the slots exceeds a threshold
+unfoldable pub reachedSlots : List Pair → List ℕ → List Slot → Bool
+reachedSlots qs hs [] = false
+reachedSlots qs hs (x ∷ xs) = exceedsCells qs hs (x .cells) || reachedSlots qs hs xs
+
+-- a slot's serial and score
+abbrev pub scored : List Pair → Slot → Line
+scored qs x = record { serial = x .serial; score = scoreCells qs (x .cells) }
+
+-- every slot's cells rise, as any message's do
+abbrev pub AllRising : List Slot → Type 0
+AllRising [] = Unit {0}
+AllRising (x ∷ xs) = RisingCells (x .cells) × AllRising xs

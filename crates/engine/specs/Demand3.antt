@@ -1,0 +1,40 @@
+-- Demand 3: whatever frames are handed one after another to a fresh engine, what it keeps is what the paper log says.
+-- The theorem is in proofs/Demand3.antt. Assumes nothing.
+use Prim.Native.Nat.{ℕ}
+use mathlib.Core.Path.{_≡_}
+use mathlib.Core.List.{List, [], _∷_, _++_}
+use lib.ListN.{length}
+use Rattle.paper.specs.Log.{Log, Call, stateLength, fresh, replay, judgeList, listed}
+use Rattle.paper.specs.Demand3.{AllSettled, Answered}
+use Rattle.memory.specs.Words.{words}
+use Rattle.rank.specs.Listing.{linesOf}
+use Rattle.engine.specs.declared.Reply.{Reply}
+use Rattle.engine.specs.declared.Listing.{Listing}
+use Rattle.engine.specs.Represents.{keeping}
+use Rattle.engine.specs.Post.{callOf, replyOf, FramePost, ListPost}
+
+-- frames handed one after another, each on the memory as the one before left it, chained by the promise of `frame`
+pub data Frames : List ℕ → List (List ℕ) → List ℕ → Type 0 where
+  none-left : {s : List ℕ} → Frames s [] s
+  handed : {s s′ s″ : List ℕ} {bytes : List ℕ} {more : List (List ℕ)} (r : Reply) → FramePost s bytes r s′ → Frames s′ more s″ → Frames s (bytes ∷ more) s″
+
+-- the calls that the paper log is fed
+abbrev pub callsOf : List ℕ → List (List ℕ) → List Call
+callsOf s [] = []
+callsOf s (bytes ∷ more) = callOf s bytes ∷ callsOf s more
+
+abbrev pub logOf : ℕ → ℕ → List ℕ → List (List ℕ) → Log
+logOf N T s frames = replay 0 (fresh N T) (callsOf s frames)
+
+pub record Demand3 (N T : ℕ) (s : List ℕ) (frames : List (List ℕ)) (s′ : List ℕ) : Type 0 where
+  -- "its kept list .. equals the one ranked afresh from the paper log; its candidates are exactly the messages in force with an impact above its
+  -- threshold in one of its terms; while its list is full the threshold sum is below the last listed score, and no threshold below the top of
+  -- its scale could be one higher without reaching it; while it is short every threshold is 0": `Settled` of each registered query
+  pub settled : AllSettled (logOf N T s frames) (keeping (words s′))
+  -- "as a reading returns it": serials, scores and number of entries, or 10 where the log has no such query
+  pub readings : (n : ℕ) (r : Listing) → ListPost s′ n r
+      → (r .number ≡ judgeList 0 (logOf N T s frames) stateLength 0 n) × (linesOf (r .list) ≡ listed 0 (logOf N T s frames) stateLength 0 n)
+  -- "A query registered before and after the last frame is marked by it exactly when an arriving or departing message has, in one of its terms,
+  -- an impact above the threshold it had there before that frame; unmarked, its thresholds, candidates and list are as they were"
+  pub last : (first : List (List ℕ)) (bytes : List ℕ) (r : Reply) (s₁ : List ℕ) → frames ≡ first ++ (bytes ∷ []) → Frames s first s₁ → FramePost s₁ bytes r s′
+      → Answered 0 (logOf N T s first) (keeping (words s₁)) (callOf s bytes) (replyOf r) (keeping (words s′))

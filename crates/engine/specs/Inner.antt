@@ -1,0 +1,77 @@
+-- What the functions inside the engine ensure. Assumes nothing.
+use Prim.Native.Nat.{ℕ, _+_, _-_, _%_, _≤_, _<_, _^_}
+use mathlib.Core.Path.{_≡_}
+use mathlib.Core.Bool.{Bool, false}
+use mathlib.Core.List.{List, _++_}
+use mathlib.Core.Option.{Option, none, some}
+use lib.ListN.{length, getD}
+use Rattle.paper.specs.Frame.{Frame, Valid}
+use Rattle.paper.specs.Rank.{Query}
+use Rattle.paper.specs.Window.{Message}
+use Rattle.paper.specs.Log.{Log, numbers, judgeFrame, accept, departs}
+use Rattle.paper.specs.Sound.{Queries}
+use Rattle.paper.specs.Threshold.{reached}
+use Rattle.paper.specs.Demand3.{marked, bitmap}
+use Rattle.memory.specs.Words.{words}
+use Rattle.memory.specs.Keeps.{Keeps}
+use Rattle.window.specs.Layout.{slots, stateWords, clockAt, oldestAt, countAt, recordAt, recordWords}
+use Rattle.window.specs.Cursor.{Written}
+use Rattle.query.specs.Record.{thresholds, HoldsAt}
+use Rattle.query.specs.Post.{Change}
+use Rattle.engine.specs.declared.Reply.{Reply}
+use Rattle.engine.specs.Represents.{Represents, keeping}
+
+-- the same record, word for word
+abbrev pub SameRecord : List ℕ → List ℕ → ℕ → Type 0
+SameRecord w w′ q = (i : ℕ) → i < recordWords → getD w′ (recordAt q + i) 0 ≡ getD w (recordAt q + i) 0
+
+-- the header's clock, oldest slot and count are written, and nothing else
+pub record PutCursor (clock oldest count : ℕ) (w w′ : List ℕ) : Type 0 where
+  pub keeps : Keeps clockAt (countAt + 1) w w′
+  pub clock-is : getD w′ clockAt 0 ≡ clock
+  pub oldest-is : getD w′ oldestAt 0 ≡ oldest
+  pub count-is : getD w′ countAt 0 ≡ count
+
+-- whether a message that goes or comes reaches the query at a number
+abbrev pub reachedIn : List ℕ → ℕ → Option Query → List Message → Bool
+reachedIn w q none ms = false
+reachedIn w q (some query) ms = reached (query .terms) (thresholds w q (length (query .terms))) ms
+
+-- the first m records are updated for a change of the window, and the marks of those reached are set
+pub record Passed (m : ℕ) (w : List ℕ) (o d o′ count newest marks : ℕ) (w′ : List ℕ) : Type 0 where
+  pub keeps : Keeps (recordAt 0) stateWords w w′
+  pub small : marks < 2 ^ m
+  pub later : (q : ℕ) → m ≤ q → q < numbers → SameRecord w w′ q
+  pub right : (s : ℕ) (ga sa ca : List Message) (qs : List (Option Query)) → Change w o d o′ s newest ga sa ca → count ≡ s + length ca → Queries qs
+      → ((q : ℕ) → q < numbers → HoldsAt w q o (d + s) (ga ++ sa) (getD qs q none))
+      → ((q : ℕ) → q < m → HoldsAt w′ q o′ count (sa ++ ca) (getD qs q none))
+      × (marks ≡ bitmap (λ q. reachedIn w q (getD qs q none) (ga ++ ca)) m)
+      × ((q : ℕ) → q < m → reachedIn w q (getD qs q none) (ga ++ ca) ≡ false → SameRecord w w′ q)
+
+-- a message is taken into the slot after the window, which is then `n′ + 1` slots from slot `o′` on, and every record is updated
+pub record Joined (m : Message) (o n o′ n′ : ℕ) (w : List ℕ) (r : Reply) (w′ : List ℕ) : Type 0 where
+  pub number : r .number ≡ 0
+  pub departures : r .departures ≡ n - n′
+  pub written : List ℕ
+  pub message : Written ((o′ + n′) % slots) m w written
+  pub moved : List ℕ
+  pub cursor : PutCursor (m .time) o′ (n′ + 1) written moved
+  pub passed : Passed numbers moved o (n - n′) o′ (n′ + 1) ((o′ + n′) % slots) (r .marks) w′
+
+-- a frame that the log accepts is taken in
+pub record Accepted (log : Log) (f : Frame) (w : List ℕ) (r : Reply) (w′ : List ℕ) : Type 0 where
+  pub holds : Represents (accept log f) w′
+  pub marks : r .marks ≡ bitmap (marked log (keeping w) f) numbers
+  pub departures : r .departures ≡ length (departs log f)
+  pub untouched : (q : ℕ) → q < numbers → marked log (keeping w) f q ≡ false → SameRecord w w′ q
+
+-- a frame of one kind is judged by the history and taken in
+pub record Did (f : Frame) (s : List ℕ) (r : Reply) (s′ : List ℕ) : Type 0 where
+  pub unchanged : (r .number ≡ 0 → ⊥) → (s′ ≡ s) × (r .marks ≡ 0) × (r .departures ≡ 0)
+  pub right : (log : Log) → Represents log (words s) → Valid f → (r .number ≡ judgeFrame log f) × (r .number ≡ 0 → Accepted log f (words s) r (words s′))
+
+-- the clock moves on with no message and no query changed
+pub record Ticked (t : ℕ) (w : List ℕ) (r : Reply) (w′ : List ℕ) : Type 0 where
+  pub number : r .number ≡ 0
+  pub small : r .marks < 2 ^ numbers
+  pub right : (log : Log) → Represents log w → t < 2 ^ 32 → log .clock ≤ t → Accepted log (Frame.tick t) w r w′

@@ -1,0 +1,4 @@
+pub mod Represents
+pub mod Post
+pub mod Inner
+pub mod Demand3

@@ -1,0 +1,70 @@
+-- The promises of the engine's calls. `s` is the lent state memory before the call and `s′` after it, in bytes. Assumes nothing.
+use Prim.Native.Nat.{ℕ, _+_, _*_, _≤_, _<_}
+use mathlib.Core.Path.{_≡_}
+use mathlib.Core.Bool.{false}
+use mathlib.Core.List.{List, [], _∷_, _++_}
+use lib.ListN.{length, getD, take, drop, replicate}
+use Rattle.paper.specs.Frame.{shape}
+use Rattle.paper.specs.Frame.Shape.{refused}
+use Rattle.paper.specs.Rank.{Line}
+use Rattle.paper.specs.Log.{Log, Call, stateLength, numbers, judgeStart, after, judgeList, listed, posted, judgePostings}
+use Rattle.paper.specs.Demand3.{replyTo, markedBy}
+use Rattle.paper.specs.Demand3 as Demand3
+use Rattle.memory.specs.Words.{words, putWord}
+use Rattle.rank.specs.Listing.{linesOf, Tidy}
+use Rattle.window.specs.Layout.{recordAt, recordWords}
+use Rattle.engine.specs.declared.Reply.{Reply}
+use Rattle.engine.specs.declared.Listing.{Listing}
+use Rattle.engine.specs.declared.Found.{Found}
+use Rattle.engine.specs.Represents.{Represents, keeping}
+
+-- a call with these bytes on state memory of this length; nothing is written into lent output
+abbrev pub callOf : List ℕ → List ℕ → Call
+callOf s bytes = record { bytes = bytes; state = length s; output = 0 }
+
+abbrev pub replyOf : Reply → Demand3.Reply
+replyOf r = record { number = r .number; marks = r .marks; departures = r .departures }
+
+-- the bytes of a query's record
+abbrev pub recordBytes : List ℕ → ℕ → List ℕ
+recordBytes s q = take (4 * recordWords) (drop (4 * recordAt q) s)
+
+-- ---- start
+
+-- zeros, but for N and T in the first two words
+unfoldable pub freshMemory : ℕ → ℕ → List ℕ
+freshMemory N T = putWord (putWord (replicate stateLength 0) 0 N) 1 T
+
+-- "Starting: 11, 12."
+pub record StartPost (N T : ℕ) (s : List ℕ) (r : ℕ) (s′ : List ℕ) : Type 0 where
+  pub number : r ≡ judgeStart N T (length s)
+  pub unchanged : (r ≡ 0 → ⊥) → s′ ≡ s
+  pub started : r ≡ 0 → s′ ≡ freshMemory N T
+
+-- ---- frame
+
+-- For memory that holds a log: the reply and the log after the call are the paper's; a record that the call doesn't mark is the same bytes.
+pub record FrameRight (log : Log) (s bytes : List ℕ) (r : Reply) (s′ : List ℕ) : Type 0 where
+  pub reply : replyOf r ≡ replyTo 0 log (keeping (words s)) (callOf s bytes)
+  pub holds : Represents (after 0 log (callOf s bytes)) (words s′)
+  pub untouched : (q : ℕ) → q < numbers → markedBy 0 log (keeping (words s)) (callOf s bytes) q ≡ false → recordBytes s′ q ≡ recordBytes s q
+
+-- "Order for a frame: state length (12), then 1 to 10." Whatever the memory holds, 12 and 1 to 6 are by the lengths and bytes alone, and
+-- "A refusal returns its number, all else returned is 0, and no memory changes."
+pub record FramePost (s bytes : List ℕ) (r : Reply) (s′ : List ℕ) : Type 0 where
+  pub long : length s′ ≡ length s
+  pub not-lent : (length s ≡ stateLength → ⊥) → r .number ≡ 12
+  pub shaped : length s ≡ stateLength → (n : ℕ) → shape bytes ≡ refused n → r .number ≡ n
+  pub unchanged : (r .number ≡ 0 → ⊥) → (s′ ≡ s) × (r .marks ≡ 0) × (r .departures ≡ 0)
+  pub right : (log : Log) → Represents log (words s) → length s ≡ stateLength → FrameRight log s bytes r s′
+
+-- ---- readings
+
+-- "A list reading: 12, 10; its answer holds sixteen serials and scores, unused ones 0, and the number of entries."
+pub record ListPost (s : List ℕ) (n : ℕ) (r : Listing) : Type 0 where
+  pub not-lent : (length s ≡ stateLength → ⊥) → r .number ≡ 12
+  pub no-number : length s ≡ stateLength → numbers ≤ n → r .number ≡ 10
+  pub most : r .list .count ≤ 16
+  pub refused : (r .number ≡ 0 → ⊥) → (linesOf (r .list) ≡ []) × Tidy (r .list)
+  pub right : (log : Log) → Represents log (words s) → length s ≡ stateLength
+      → (r .number ≡ judgeList 0 log (length s) 0 n) × (linesOf (r .list) ≡ listed 0 log (length s) 0 n) × Tidy (r .list)

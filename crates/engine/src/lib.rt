@@ -1,0 +1,283 @@
+// The engine: frames in, a ranked list for each registered query kept in lent memory.
+ghost use mathlib.Core.Path.{_≡_};
+ghost use Prim.Native.Nat.{ℕ, _+_, _*_, _<_, _≤_, _^_};
+ghost use lib.ListN.{length, getD};
+ghost use Rattle.paper.specs.Frame.{Frame};
+ghost use Rattle.paper.specs.Write.{side-by-side};
+ghost use Rattle.paper.specs.Log.{stateLength, numbers};
+ghost use Rattle.memory.specs.Words.{words};
+ghost use Rattle.window.specs.Layout.{slots};
+ghost use Rattle.engine.specs.Post.{StartPost, FramePost, ListPost};
+ghost use Rattle.window.specs.Cursor.{Moved};
+ghost use Rattle.engine.specs.Inner.{PutCursor, Passed, Joined, Did, Ticked};
+
+use frame::Kind;
+use rank::Ranked;
+use window::Cursor;
+
+pub struct Reply {
+    pub number: u32,
+    pub marks: u32,
+    pub departures: u32,
+}
+
+pub struct Listing {
+    pub number: u32,
+    pub list: Ranked,
+}
+
+pub struct Found {
+    pub number: u32,
+    pub count: u32,
+}
+
+fn refused(number: u32) -> Reply
+    ensures { λ r. ⌜ (r .number ≡ number) × (r .marks ≡ 0) × (r .departures ≡ 0) ⌝ }
+{
+    Reply {
+        number,
+        marks: 0,
+        departures: 0,
+    }
+}
+
+// 2 to the q.
+fn mark(q: usize) -> u32
+    requires { ⌜ q < 32 ⌝ }
+    ensures { λ r. ⌜ r ≡ 2 ^ q ⌝ }
+{
+    1u32 << q
+}
+
+pub fn start(state: &mut [u8], capacity: u32, life: u32) -> u32
+    ensures { λ r. ⌜ StartPost capacity life (now (state .entry)) r (now (state .exit)) ⌝ }
+{
+    if capacity == 0 {
+        return 11;
+    }
+    if 256 < capacity {
+        return 11;
+    }
+    if life == 0 {
+        return 11;
+    }
+    if 65535 < life {
+        return 11;
+    }
+    if state.len() != window::STATE {
+        return 12;
+    }
+    let mut i: usize = 0;
+    while i < state.len() {
+        state[i] = 0;
+        i += 1;
+    }
+    memory::put(state, 0, capacity);
+    memory::put(state, 1, life);
+    0
+}
+
+// Every registered query is updated where the frame reaches it; the marks of those.
+fn update_all(state: &mut [u8], gone: usize, departed: usize, first: usize, count: usize, newest: usize) -> u32
+    requires { ⌜ length (now state) ≡ stateLength ⌝ }
+    requires { ⌜ (gone < slots) × (first < slots) × (count < slots) ⌝ }
+    ensures { λ r. ⌜ Passed numbers (words (now (state .entry))) gone departed first count newest r (words (now (state .exit))) ⌝ }
+{
+    let mut marks: u32 = 0;
+    let mut q: usize = 0;
+    while q < 32 {
+        if query::in_use(state, q) {
+            if query::update(state, q, gone, departed, first, count, newest) {
+                marks += mark(q);
+            }
+        }
+        q += 1;
+    }
+    marks
+}
+
+fn put_cursor(state: &mut [u8], clock: u32, oldest: usize, count: usize)
+    requires { ⌜ length (now state) ≡ stateLength ⌝ }
+    requires { ⌜ (oldest < slots) × (count < slots) ⌝ }
+    ensures { λ _. ⌜ PutCursor clock oldest count (words (now (state .entry))) (words (now (state .exit))) ⌝ }
+{
+    memory::put(state, 2, clock);
+    memory::put(state, 3, oldest as u32);
+    memory::put(state, 4, count as u32);
+}
+
+// How many messages can be in force, at most 256 whatever memory holds.
+fn capacity_of(state: &[u8]) -> u32
+    requires { ⌜ length (now state) ≡ stateLength ⌝ }
+    ensures { λ r. ⌜ (r ≤ 256) × (getD (words (now (state .entry))) 0 0 ≤ 256 → r ≡ getD (words (now (state .entry))) 0 0) ⌝ }
+{
+    let capacity = memory::get(state, 0);
+    if capacity < 256 { capacity } else { 256 }
+}
+
+// A message joins the window: `had` slots from slot `gone` on before, `count` from slot `oldest` on stay.
+fn join(state: &mut [u8], before: Cursor, after: Cursor, time: u32, serial: u32, m: usize, terms: [u32; 16], counts: [u32; 16]) -> Reply
+    requires { ⌜ (length (now state) ≡ stateLength) × (m ≤ 16) ⌝ }
+    requires { ⌜ ((i : ℕ) → i < m → (getD terms i 0 < 1024) × (getD counts i 0 < 256)) ⌝ }
+    requires { ⌜ (before .oldest < slots) × (before .count < slots) × (after .count < 256) × Moved (before .oldest) (before .count) (after .oldest) (after .count) ⌝ }
+    ensures { λ r. ⌜ Joined (record { time = time; serial = serial; pairs = side-by-side m terms counts }) (before .oldest) (before .count) (after .oldest) (after .count) (words (now (state .entry))) r (words (now (state .exit))) ⌝ }
+{
+    let gone = before.oldest;
+    let oldest = after.oldest;
+    let count = after.count;
+    let departed = before.count - count;
+    let newest = (oldest + count) % window::SLOTS;
+    window::put_message(state, newest, time, serial, m, terms, counts);
+    put_cursor(state, time, oldest, count + 1);
+    let marks = update_all(state, gone, departed, oldest, count + 1, newest);
+    Reply {
+        number: 0,
+        marks,
+        departures: departed as u32,
+    }
+}
+
+fn message(state: &mut [u8], time: u32, serial: u32, m: usize, terms: [u32; 16], counts: [u32; 16]) -> Reply
+    requires { ⌜ length (now state) ≡ stateLength ⌝ }
+    requires { ⌜ (1 ≤ m) × (m ≤ 16) ⌝ }
+    requires { ⌜ ((i : ℕ) → i < m → (getD terms i 0 < 1024) × (getD counts i 0 < 256)) ⌝ }
+    ensures { λ r. ⌜ Did (Frame.message time serial (side-by-side m terms counts)) (now (state .entry)) r (now (state .exit)) ⌝ }
+{
+    let before = Cursor::load(state);
+    if time < before.clock {
+        return refused(7);
+    }
+    let life = memory::get(state, 1);
+    let aged = before.advanced(state, life, time);
+    if window::has_serial(state, aged.oldest, aged.count, serial) {
+        return refused(8);
+    }
+    let after = aged.roomy(capacity_of(state));
+    join(state, before, after, time, serial, m, terms, counts)
+}
+
+// The clock moves on, past messages go, and the queries that they reach are updated.
+fn advance(state: &mut [u8], time: u32) -> Reply
+    requires { ⌜ length (now state) ≡ stateLength ⌝ }
+    ensures { λ r. ⌜ Ticked time (words (now (state .entry))) r (words (now (state .exit))) ⌝ }
+{
+    let before = Cursor::load(state);
+    let gone = before.oldest;
+    let had = before.count;
+    let life = memory::get(state, 1);
+    let after = before.advanced(state, life, time);
+    let oldest = after.oldest;
+    let count = after.count;
+    let departed = had - count;
+    put_cursor(state, time, oldest, count);
+    let marks = update_all(state, gone, departed, oldest, count, window::SLOTS);
+    Reply {
+        number: 0,
+        marks,
+        departures: departed as u32,
+    }
+}
+
+fn tick(state: &mut [u8], time: u32) -> Reply
+    requires { ⌜ length (now state) ≡ stateLength ⌝ }
+    ensures { λ r. ⌜ Did (Frame.tick time) (now (state .entry)) r (now (state .exit)) ⌝ }
+{
+    if time < memory::get(state, 2) {
+        return refused(7);
+    }
+    advance(state, time)
+}
+
+fn register(state: &mut [u8], time: u32, number: usize, k: u32, n: usize, terms: [u32; 16], weights: [u32; 16]) -> Reply
+    requires { ⌜ length (now state) ≡ stateLength ⌝ }
+    requires { ⌜ (number < 32) × (1 ≤ k) × (k ≤ 16) × (1 ≤ n) × (n ≤ 8) ⌝ }
+    requires { ⌜ ((i : ℕ) → i < n → (getD terms i 0 < 1024) × (getD weights i 0 < 16)) ⌝ }
+    ensures { λ r. ⌜ Did (Frame.register time number k (side-by-side n terms weights)) (now (state .entry)) r (now (state .exit)) ⌝ }
+{
+    if time < memory::get(state, 2) {
+        return refused(7);
+    }
+    if query::in_use(state, number) {
+        return refused(9);
+    }
+    let reply = advance(state, time);
+    let cursor = Cursor::load(state);
+    query::register(state, number, k, n, terms, weights, cursor.oldest, cursor.count);
+    Reply {
+        number: 0,
+        marks: reply.marks + mark(number),
+        departures: reply.departures,
+    }
+}
+
+fn unregister(state: &mut [u8], time: u32, number: usize) -> Reply
+    requires { ⌜ length (now state) ≡ stateLength ⌝ }
+    requires { ⌜ number < 32 ⌝ }
+    ensures { λ r. ⌜ Did (Frame.unregister time number) (now (state .entry)) r (now (state .exit)) ⌝ }
+{
+    if time < memory::get(state, 2) {
+        return refused(7);
+    }
+    if !query::in_use(state, number) {
+        return refused(10);
+    }
+    query::clear(state, number);
+    let reply = advance(state, time);
+    Reply {
+        number: 0,
+        marks: reply.marks + mark(number),
+        departures: reply.departures,
+    }
+}
+
+pub fn frame(state: &mut [u8], bytes: &[u8]) -> Reply
+    ensures { λ r. ⌜ FramePost (now (state .entry)) (now (bytes .entry)) r (now (state .exit)) ⌝ }
+{
+    if state.len() != window::STATE {
+        return refused(12);
+    }
+    let parsed = frame::read(bytes);
+    let what = parsed.what;
+    let terms = parsed.terms;
+    let amounts = parsed.amounts;
+    match what {
+        Kind::Message { time, serial, pairs } => message(state, time, serial, pairs, terms, amounts),
+        Kind::Tick { time } => tick(state, time),
+        Kind::Register {
+            time,
+            number,
+            k,
+            terms: n,
+        } => register(state, time, number as usize, k, n, terms, amounts),
+        Kind::Unregister { time, number } => unregister(state, time, number as usize),
+        Kind::Refused(r) => refused(r),
+    }
+}
+
+pub fn list(state: &[u8], number: u32) -> Listing
+    ensures { λ r. ⌜ ListPost (now (state .entry)) number r ⌝ }
+{
+    if state.len() != window::STATE {
+        return Listing {
+            number: 12,
+            list: Ranked::none(),
+        };
+    }
+    if 31 < number {
+        return Listing {
+            number: 10,
+            list: Ranked::none(),
+        };
+    }
+    let q = number as usize;
+    if !query::in_use(state, q) {
+        return Listing {
+            number: 10,
+            list: Ranked::none(),
+        };
+    }
+    Listing {
+        number: 0,
+        list: query::load_list(state, q),
+    }
+}

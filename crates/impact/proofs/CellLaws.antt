@@ -1,0 +1,148 @@
+-- Laws of cells: a cell gives its parts back, and a message's cells its pairs, its impacts and their rising terms; and the sum of squares.
+-- Assumes nothing.
+use Prim.Native.Nat.{ℕ, zero, suc, _+_, _*_, _^_, _≤_, _<_}
+use native.Mathlib.Nat.{not-suc-le-zero}
+use native.Mathlib.Numerals.{add-one}
+use native.Mathlib.Omega.{arith}
+use mathlib.Core.Path.{_≡_, refl, sym, ap, ap₂, _∙_}
+use mathlib.Core.Bool.{Bool, true, false, cond}
+use mathlib.Core.List.{List, [], _∷_, map}
+use lib.ListN.{length, getD, take, length-map, List·getD-map}
+use lib.Seq.{length-take-le, getD-take}
+use lib.Dec.{eqb, leb, ltb}
+use borrow.Author.Tests.{ltb-true, leb-true, ne-eqb}
+use Rattle.paper.specs.Frame.{Pair, Pairs, AllFit, countWidth, mostPairs, positive, rises}
+use Rattle.paper.specs.Impact.{impact, squares, countOf, impactIn}
+use Rattle.paper.specs.Write.{side-by-side}
+use Rattle.paper.proofs.Tests.{and-true}
+use Rattle.paper.proofs.ImpactLaws.{impact-most}
+use Rattle.impact.specs.Cell.{packed, cellTerm, cellCount, cellImpact, cellOf, cellsOf, pairsOfCells, squaresOf, lookup, RisingCells, RisingTerms}
+
+-- ---- a cell and its parts
+
+module _ {t f v : ℕ} (term : t < 1024) (count : f < 256) (small : v < 16384) where
+  pub packed-term : cellTerm (packed t f v) ≡ t
+  packed-term = omega arith
+
+  pub packed-count : cellCount (packed t f v) ≡ f
+  packed-count = omega arith
+
+  pub packed-impact : cellImpact (packed t f v) ≡ v
+  packed-impact = omega arith
+
+  pub packed-fits : packed t f v < 2 ^ 32
+  packed-fits = omega arith
+
+-- ---- the cells of a message
+
+abbrev terms : List Pair → List ℕ
+terms ps = map (λ p. p .term) ps
+
+-- an impact has fourteen bits
+impact-small : (f n : ℕ) → impact f n < 16384
+impact-small f n = let h = impact-most f n in omega arith
+
+pub length-cells : (ps : List Pair) → length (cellsOf ps) ≡ length ps
+unfolding cellsOf
+length-cells ps = length-map ps (cellOf (squares ps))
+
+-- by recursion on the pairs, whatever their squares sum to
+module _ (n : ℕ) where
+  lookup-in : (t : ℕ) (ps : List Pair) → AllFit countWidth ps → positive ps ≡ true
+      → lookup t (map (cellOf n) ps) ≡ cond (eqb (countOf t ps) 0) 0 (impact (countOf t ps) n)
+  unfolding lookup countOf positive
+  lookup-in t [] a e = refl
+  lookup-in t (p ∷ ps) a e =
+      let s = impact-small (p .amount) n in
+      let z = and-true (ltb 0 (p .amount)) (positive ps) e in
+      rw (packed-term (a .0) (a .1) s, packed-impact (a .0) (a .1) s) (go (eqb (p .term) t) (ltb-true 0 (p .amount) (z .0)) (lookup-in t ps (a .2) (z .1)))
+    where
+      go : (b : Bool) → 0 < p .amount → lookup t (map (cellOf n) ps) ≡ cond (eqb (countOf t ps) 0) 0 (impact (countOf t ps) n)
+          → cond b (impact (p .amount) n) (lookup t (map (cellOf n) ps)) ≡ cond (eqb (cond b (p .amount) (countOf t ps)) 0) 0 (impact (cond b (p .amount) (countOf t ps)) n)
+      go true h ih = rw (ne-eqb (p .amount) 0 (λ z. omega arith))
+      go false h ih = ih
+
+  terms-in : (ps : List Pair) → AllFit countWidth ps → map cellTerm (map (cellOf n) ps) ≡ terms ps
+  terms-in [] a = refl
+  terms-in (p ∷ ps) a = ap₂ _∷_ (packed-term (a .0) (a .1) (impact-small (p .amount) n)) (terms-in ps (a .2))
+
+  pairs-in : (ps : List Pair) → AllFit countWidth ps → pairsOfCells (map (cellOf n) ps) ≡ ps
+  unfolding pairsOfCells
+  pairs-in [] a = refl
+  pairs-in (p ∷ ps) a =
+      let s = impact-small (p .amount) n in
+      rw (packed-term (a .0) (a .1) s, packed-count (a .0) (a .1) s) (ap (λ (qs : List Pair). p ∷ qs) (pairs-in ps (a .2)))
+
+-- ---- rising terms
+
+rises-parts : (least : ℕ) (p : Pair) (ps : List Pair) → rises least (p ∷ ps) ≡ true → (least ≤ p .term) × (rises (suc (p .term)) ps ≡ true)
+unfolding rises
+rises-parts least p ps e = let s = and-true (leb least (p .term)) (rises (suc (p .term)) ps) e in (leb-true least (p .term) (s .0), s .1)
+
+rises-from : (least : ℕ) (ps : List Pair) → rises least ps ≡ true → (j : ℕ) → j < length ps → least ≤ getD (terms ps) j 0
+rises-from least [] e j h = absurd (not-suc-le-zero h)
+rises-from least (p ∷ ps) e zero h = rises-parts least p ps e .0
+rises-from least (p ∷ ps) e (suc j) h =
+    let s = rises-parts least p ps e in
+    let r = rises-from (suc (p .term)) ps (s .1) j (omega arith) in
+    omega arith
+
+rises-at : (least : ℕ) (ps : List Pair) → rises least ps ≡ true → RisingTerms (length ps) (terms ps)
+rises-at least [] e i j h k = absurd (not-suc-le-zero k)
+rises-at least (p ∷ ps) e i zero h k = absurd (not-suc-le-zero h)
+rises-at least (p ∷ ps) e zero (suc j) h k = rises-from (suc (p .term)) ps (rises-parts least p ps e .1) j (omega arith)
+rises-at least (p ∷ ps) e (suc i) (suc j) h k = rises-at (suc (p .term)) ps (rises-parts least p ps e .1) i j (omega arith) (omega arith)
+
+module _ (ps : List Pair) (v : Pairs countWidth mostPairs ps) where
+  pub lookup-cells : (t : ℕ) → lookup t (cellsOf ps) ≡ impactIn ps t
+  unfolding cellsOf impactIn
+  lookup-cells t = lookup-in (squares ps) t ps (v .fit) (v .above-zero)
+
+  term-at : (i : ℕ) → cellTerm (getD (cellsOf ps) i 0) ≡ getD (terms ps) i 0
+  unfolding cellsOf
+  term-at i = sym (List·getD-map cellTerm (cellsOf ps) i 0) ∙ ap (λ (ts : List ℕ). getD ts i 0) (terms-in (squares ps) ps (v .fit))
+
+  pub rising-cells : RisingCells (cellsOf ps)
+  rising-cells i j h k = rw (term-at i, term-at j) (rises-at 0 ps (v .in-order) i j h (rw length-cells at k))
+
+  pub pairs-of-cells : pairsOfCells (cellsOf ps) ≡ ps
+  unfolding cellsOf
+  pairs-of-cells = pairs-in (squares ps) ps (v .fit)
+
+-- ---- a query's terms, as a list or an array that starts with them
+
+pub rising-terms : {w most : ℕ} (qs : List Pair) (ts : List ℕ) → Pairs w most qs → take (length qs) ts ≡ map (λ q. q .term) qs → RisingTerms (length qs) ts
+rising-terms qs ts v e i j h k = rw (at i (omega arith), at j k) (rises-at 0 qs (v .in-order) i j h k)
+  where
+    at : (x : ℕ) → x < length qs → getD ts x 0 ≡ getD (terms qs) x 0
+    at x l = sym (getD-take (length qs) ts x 0 l) ∙ ap (λ (us : List ℕ). getD us x 0) e
+
+terms-side : (n : ℕ) (ts us : List ℕ) → n ≤ length us → terms (side-by-side n ts us) ≡ take n ts
+unfolding side-by-side
+terms-side zero ts us h = refl
+terms-side (suc n) [] us h = refl
+terms-side (suc n) (t ∷ ts) [] h = absurd (not-suc-le-zero h)
+terms-side (suc n) (t ∷ ts) (u ∷ us) h = ap (λ (l : List ℕ). t ∷ l) (terms-side n ts us (omega arith))
+
+pub rising-side : {w most : ℕ} (n : ℕ) (ts us : List ℕ) → n ≤ length ts → n ≤ length us → Pairs w most (side-by-side n ts us) → RisingTerms n ts
+rising-side n ts us h k v =
+    let e = terms-side n ts us k in
+    let l : length (side-by-side n ts us) ≡ n = sym (length-map (side-by-side n ts us) (λ q. q .term)) ∙ ap length e ∙ length-take-le n ts h in
+    rw l at (rising-terms (side-by-side n ts us) ts v (rw l (sym e)))
+
+-- ---- the sum of squares
+
+pub squares-side : (m : ℕ) (ts fs : List ℕ) → m ≤ length ts → squares (side-by-side m ts fs) ≡ squaresOf m fs
+unfolding side-by-side squares squaresOf
+squares-side zero ts fs h = refl
+squares-side (suc m) [] fs h = absurd (not-suc-le-zero h)
+squares-side (suc m) (t ∷ ts) [] h = refl
+squares-side (suc m) (t ∷ ts) (f ∷ fs) h = ap (λ (n : ℕ). f * f + n) (squares-side m ts fs (omega arith))
+
+-- one more at the end
+pub squares-more : (i : ℕ) (fs : List ℕ) → squaresOf (i + 1) fs ≡ squaresOf i fs + getD fs i 0 * getD fs i 0
+unfolding squaresOf
+squares-more zero [] = refl
+squares-more zero (f ∷ fs) = omega arith
+squares-more (suc i) [] = rw add-one refl
+squares-more (suc i) (f ∷ fs) = let ih = rw add-one at (squares-more i fs) in rw add-one (omega arith)

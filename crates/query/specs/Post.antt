@@ -1,0 +1,143 @@
+-- What each function over a record ensures. Assumes nothing.
+use Prim.Native.Nat.{ℕ, _+_, _≤_, _<_}
+use mathlib.Core.Path.{_≡_}
+use mathlib.Core.Bool.{Bool, true, false, cond}
+use mathlib.Core.List.{List, [], _∷_, _++_, map}
+use lib.ListN.{length, getD, take, drop}
+use lib.Dec.{ltb}
+use Rattle.paper.specs.Impact.{top}
+use Rattle.paper.specs.Rank.{lines, ranking}
+use Rattle.paper.specs.Rank as Rank
+use Rattle.paper.specs.Window.{Message}
+use Rattle.paper.specs.Threshold.{thresholdSum, lastScore, reached}
+use Rattle.paper.specs.Write.{side-by-side}
+use Rattle.paper.specs.Sound.{Messages, Terms}
+use Rattle.memory.specs.Keeps.{Keeps}
+use Rattle.impact.specs.Cell.{RisingTerms}
+use Rattle.rank.specs.declared.Ranked.{Ranked}
+use Rattle.rank.specs.Listing.{linesOf, Tidy}
+use Rattle.window.specs.Layout.{slots, recordAt, recordWords}
+use Rattle.window.specs.Slot.{slot, stored, ring, window}
+use Rattle.candidates.specs.declared.Query.{Query}
+use Rattle.candidates.specs.declared.Source.{Source}
+use Rattle.candidates.specs.Match.{exceedsCells}
+use Rattle.candidates.specs.Source.{inRing}
+use Rattle.candidates.specs.Post.{termsOf, takes}
+use Rattle.query.specs.Record.{thresholdsIn, serialsIn, scoresIn, flagsIn, listedIn, thresholds, Says, Holds}
+
+-- ---- reading
+
+-- ranges that hold whatever memory says
+pub record InRange (r : Query) : Type 0 where
+  pub k-most : r .k ≤ 16
+  pub n-least : 1 ≤ r .n
+  pub n-most : r .n ≤ 8
+  pub weights-least : (i : ℕ) → i < 8 → 1 ≤ getD (r .weights) i 0
+  pub weights-most : (i : ℕ) → i < 8 → getD (r .weights) i 0 < 16
+
+-- the loaded query is this one
+pub record Is (r : Query) (query : Rank.Query) : Type 0 where
+  pub k : r .k ≡ query .k
+  pub n : r .n ≡ length (query .terms)
+  pub terms : termsOf r ≡ query .terms
+  pub rising : RisingTerms (r .n) (r .terms)
+
+pub record LoadedQuery (w : List ℕ) (q : ℕ) (r : Query) : Type 0 where
+  pub in-range : InRange r
+  pub is : (query : Rank.Query) → Terms query → Says w q query → Is r query
+
+pub record LoadedThresholds (w : List ℕ) (q : ℕ) (r : List ℕ) : Type 0 where
+  pub in-scale : (i : ℕ) → getD r i 0 ≤ top
+  pub is : ((i : ℕ) → i < 8 → getD w (thresholdsIn q + i) 0 ≤ top) → r ≡ take 8 (drop (thresholdsIn q) w)
+
+pub record LoadedList (w : List ℕ) (q : ℕ) (r : Ranked) : Type 0 where
+  pub count-most : r .count ≤ 16
+  pub count-is : getD w (listedIn q) 0 ≤ 16 → r .count ≡ getD w (listedIn q) 0
+  pub serials : r .serials ≡ take 16 (drop (serialsIn q) w)
+  pub scores : r .scores ≡ take 16 (drop (scoresIn q) w)
+
+-- ---- writing
+
+-- what is kept of the query is written, and nothing else
+pub record StoredKept (q : ℕ) (hs : List ℕ) (list : Ranked) (fs : List ℕ) (w w′ : List ℕ) : Type 0 where
+  pub keeps : Keeps (listedIn q) (recordAt q + recordWords) w w′
+  pub count : getD w′ (listedIn q) 0 ≡ list .count
+  pub thresholds : take 8 (drop (thresholdsIn q) w′) ≡ hs
+  pub serials : take 16 (drop (serialsIn q) w′) ≡ list .serials
+  pub scores : take 16 (drop (scoresIn q) w′) ≡ list .scores
+  pub flags : take 9 (drop (flagsIn q) w′) ≡ fs
+
+-- the window that a query is settled over: `count` slots from slot `first` on hold these messages
+pub record Over (w : List ℕ) (first count : ℕ) (ms : List Message) : Type 0 where
+  pub shows : window w first count ≡ map stored ms
+  pub valid : Messages ms
+
+-- What is needed of the list and the thresholds that settling ends with: the list is the ranking, the thresholds are safe for it, and whoever
+-- exceeds one of them is taken.
+pub record Ready (w : List ℕ) (q first count : ℕ) (ms : List Message) (query : Rank.Query) (s : Source) (r : Query) (hs : List ℕ) (list : Ranked) : Type 0 where
+  pub over : Over w first count ms
+  pub terms : Terms query
+  pub says : Says w q query
+  pub is : Is r query
+  pub ranked : linesOf list ≡ lines (ranking query ms)
+  pub tidy : Tidy list
+  pub unused : (i : ℕ) → r .n ≤ i → getD hs i 0 ≡ 0
+  pub safe : length (ranking query ms) ≡ query .k → thresholdSum (query .terms) (take (r .n) hs) < lastScore (ranking query ms)
+  pub short : length (ranking query ms) < query .k → (i : ℕ) → getD hs i 0 ≡ 0
+  pub taken : (j : ℕ) → j < slots → inRing first count j ≡ true → exceedsCells (query .terms) (take (r .n) hs) (slot w j .cells) ≡ true → takes s j ≡ true
+
+pub record Finished (w : List ℕ) (q first count : ℕ) (s : Source) (r : Query) (hs : List ℕ) (list : Ranked) (w′ : List ℕ) : Type 0 where
+  pub keeps : Keeps (listedIn q) (recordAt q + recordWords) w w′
+  pub right : (ms : List Message) (query : Rank.Query) → Ready w q first count ms query s r hs list → Holds w′ q first count ms query
+
+-- settled over the whole window
+pub record Refilled (w : List ℕ) (q first count : ℕ) (r : Query) (w′ : List ℕ) : Type 0 where
+  pub keeps : Keeps (listedIn q) (recordAt q + recordWords) w w′
+  pub right : (ms : List Message) (query : Rank.Query) → Over w first count ms → Terms query → Says w q query → Is r query → Holds w′ q first count ms query
+
+-- settled from the messages that exceed one of the thresholds
+pub record SettledFrom (w : List ℕ) (q first count : ℕ) (s : Source) (r : Query) (hs : List ℕ) (w′ : List ℕ) : Type 0 where
+  pub keeps : Keeps (listedIn q) (recordAt q + recordWords) w w′
+  pub right : (ms : List Message) (query : Rank.Query) → Over w first count ms → Terms query → Says w q query → Is r query
+      → ((i : ℕ) → r .n ≤ i → getD hs i 0 ≡ 0)
+      → ((j : ℕ) → j < slots → inRing first count j ≡ true → takes s j ≡ exceedsCells (query .terms) (take (r .n) hs) (slot w j .cells))
+      → Holds w′ q first count ms query
+
+-- ---- a frame
+
+-- the slot of an arriving message, none where there is no such slot
+abbrev pub arriving : ℕ → List ℕ
+arriving newest = cond (ltb newest slots) (newest ∷ []) []
+
+-- A change of the window: of d + s slots from slot o on, those that hold `ga` go and the s from slot o′ on, which hold `sa`, stay; `ca` come.
+pub record Change (w : List ℕ) (o d o′ s newest : ℕ) (ga sa ca : List Message) : Type 0 where
+  pub first-below : o < slots
+  pub then-below : o′ < slots
+  pub small : d + s < slots
+  pub before : ring o (d + s) ≡ ring o d ++ ring o′ s
+  pub after : ring o′ (s + length ca) ≡ ring o′ s ++ arriving newest
+  pub gone : window w o d ≡ map stored ga
+  pub stay : window w o′ s ≡ map stored sa
+  pub come : map (slot w) (arriving newest) ≡ map stored ca
+  pub apart : newest < slots → inRing o (d + s) newest ≡ false
+  pub valid : Messages (ga ++ (sa ++ ca))
+
+-- whether the frame reaches the query: a message that goes or comes exceeds one of its thresholds
+abbrev pub reaches : List ℕ → ℕ → List Message → List Message → Rank.Query → Bool
+reaches w q ga ca query = reached (query .terms) (thresholds w q (length (query .terms))) (ga ++ ca)
+
+pub record Updated (w : List ℕ) (q o d o′ count newest : ℕ) (r : Bool) (w′ : List ℕ) : Type 0 where
+  pub keeps : Keeps (listedIn q) (recordAt q + recordWords) w w′
+  pub untouched : r ≡ false → w′ ≡ w
+  pub right : (s : ℕ) (ga sa ca : List Message) (query : Rank.Query) → Change w o d o′ s newest ga sa ca → count ≡ s + length ca → Terms query
+      → Holds w q o (d + s) (ga ++ sa) query
+      → (r ≡ reaches w q ga ca query) × Holds w′ q o′ count (sa ++ ca) query
+
+-- a new query, settled over the window; the record was all zero
+pub record Registered (w : List ℕ) (q first count : ℕ) (query : Rank.Query) (w′ : List ℕ) : Type 0 where
+  pub keeps : Keeps (recordAt q) (recordAt q + recordWords) w w′
+  pub right : (ms : List Message) → Over w first count ms → Terms query → Holds w′ q first count ms query
+
+pub record Cleared (w : List ℕ) (q : ℕ) (w′ : List ℕ) : Type 0 where
+  pub keeps : Keeps (recordAt q) (recordAt q + recordWords) w w′
+  pub zero : (i : ℕ) → i < recordWords → getD w′ (recordAt q + i) 0 ≡ 0

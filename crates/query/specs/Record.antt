@@ -1,0 +1,81 @@
+-- The record of a query in the state memory, and when it holds what it should. `w` is the state memory in words, `q` the query's number.
+-- Assumes nothing.
+use Prim.Native.Nat.{ℕ, _+_, _*_, _≤_, _<_}
+use mathlib.Core.Path.{_≡_}
+use mathlib.Core.Bool.{Bool, _&&_}
+use mathlib.Core.List.{List, map}
+use mathlib.Core.Option.{Option, none, some}
+use lib.ListN.{length, getD, take, drop}
+use Rattle.paper.specs.Rank.{Query, Line}
+use Rattle.paper.specs.Sort.{select}
+use Rattle.paper.specs.Window.{Message}
+use Rattle.paper.specs.Threshold.{Kept, Settled, termAt, weightAt}
+use Rattle.rank.specs.Listing.{listed, ZeroFrom}
+use Rattle.window.specs.Layout.{slots, recordAt, recordWords}
+use Rattle.window.specs.Slot.{slot, ring}
+use Rattle.candidates.specs.Match.{exceedsCells}
+use Rattle.candidates.specs.Source.{flagOf, inRing}
+
+-- ---- its parts: k, the number of terms, the terms with their weights, then what is kept: the list's length, thresholds, serials, scores, flags
+
+abbrev pub sizeIn : ℕ → ℕ
+sizeIn q = recordAt q + 1
+
+abbrev pub pairsIn : ℕ → ℕ
+pairsIn q = recordAt q + 2
+
+abbrev pub listedIn : ℕ → ℕ
+listedIn q = recordAt q + 10
+
+abbrev pub thresholdsIn : ℕ → ℕ
+thresholdsIn q = recordAt q + 11
+
+abbrev pub serialsIn : ℕ → ℕ
+serialsIn q = recordAt q + 19
+
+abbrev pub scoresIn : ℕ → ℕ
+scoresIn q = recordAt q + 35
+
+abbrev pub flagsIn : ℕ → ℕ
+flagsIn q = recordAt q + 51
+
+unfoldable pub thresholds : List ℕ → ℕ → ℕ → List ℕ
+thresholds w q n = take n (drop (thresholdsIn q) w)
+
+unfoldable pub flags : List ℕ → ℕ → List ℕ
+flags w q = take 9 (drop (flagsIn q) w)
+
+unfoldable pub list : List ℕ → ℕ → List Line
+list w q = listed (getD w (listedIn q) 0) (take 16 (drop (serialsIn q) w)) (take 16 (drop (scoresIn q) w))
+
+-- the candidates by serial, in the order of acceptance: the flagged slots of the window, which is n slots from slot o on
+unfoldable pub candidates : List ℕ → ℕ → ℕ → ℕ → List ℕ
+candidates w q o n = map (λ j. slot w j .serial) (select (flagOf (flags w q)) (ring o n))
+
+-- what is kept of a query of m terms
+abbrev pub keptOf : List ℕ → ℕ → ℕ → ℕ → ℕ → Kept
+keptOf w q o n m = record { thresholds = thresholds w q m; candidates = candidates w q o n; list = list w q }
+
+-- ---- when it holds what it should
+
+-- the record says this query
+pub record Says (w : List ℕ) (q : ℕ) (query : Query) : Type 0 where
+  pub k : getD w (recordAt q) 0 ≡ query .k
+  pub size : getD w (sizeIn q) 0 ≡ length (query .terms)
+  pub pairs : (i : ℕ) → i < length (query .terms) → getD w (pairsIn q + i) 0 ≡ termAt (query .terms) i * 16 + weightAt (query .terms) i
+
+-- it says this query, and what is kept is right for the messages in the window; the places it doesn't use are 0
+pub record Holds (w : List ℕ) (q o n : ℕ) (ms : List Message) (query : Query) : Type 0 where
+  pub says : Says w q query
+  pub settled : Settled query ms (keptOf w q o n (length (query .terms)))
+  pub flagged : (j : ℕ) → j < slots
+      → flagOf (flags w q) j ≡ (inRing o n j && exceedsCells (query .terms) (thresholds w q (length (query .terms))) (slot w j .cells))
+  pub no-threshold : (i : ℕ) → length (query .terms) ≤ i → i < 8 → getD w (thresholdsIn q + i) 0 ≡ 0
+  pub listed-most : getD w (listedIn q) 0 ≤ 16
+  pub no-serial : ZeroFrom (getD w (listedIn q) 0) (take 16 (drop (serialsIn q) w))
+  pub no-score : ZeroFrom (getD w (listedIn q) 0) (take 16 (drop (scoresIn q) w))
+
+-- a number not in use has a record of zeros
+abbrev pub HoldsAt : List ℕ → ℕ → ℕ → ℕ → List Message → Option Query → Type 0
+HoldsAt w q o n ms none = (i : ℕ) → i < recordWords → getD w (recordAt q + i) 0 ≡ 0
+HoldsAt w q o n ms (some query) = Holds w q o n ms query

@@ -1,0 +1,277 @@
+// The record of a registered query in the state memory: what is kept of it, and how a frame that reaches it updates that.
+ghost use mathlib.Core.Path.{_≡_};
+ghost use Prim.Native.Nat.{ℕ, _+_, _*_, _%_, _<_, _≤_};
+ghost use mathlib.Core.Bool.{Bool, not};
+ghost use lib.ListN.{length, getD, take, drop};
+ghost use lib.Dec.{eqb};
+ghost use Rattle.paper.specs.Log.{stateLength, numbers};
+ghost use Rattle.paper.specs.Write.{side-by-side};
+ghost use Rattle.memory.specs.Words.{words};
+ghost use Rattle.window.specs.Layout.{slots, recordAt};
+ghost use Rattle.rank.specs.Listing.{linesOf};
+ghost use Rattle.query.specs.Record.{Says};
+ghost use Rattle.query.specs.Post.{InRange, LoadedQuery, LoadedThresholds, LoadedList, StoredKept, Finished, Refilled, SettledFrom, Updated, Registered, Cleared};
+
+use candidates::Query;
+use candidates::Source;
+use rank::Ranked;
+
+// Where the records start, and how long each is, in words: k, n, the pairs, the list's length, thresholds, serials, scores, flags.
+const RECORDS: usize = 4888;
+
+const RECORD: usize = 60;
+
+const PAIRS: usize = 2;
+
+const LISTED: usize = 10;
+
+const THRESHOLDS: usize = 11;
+
+const SERIALS: usize = 19;
+
+const SCORES: usize = 35;
+
+const FLAGS: usize = 51;
+
+// Whether the number is in use: a record that isn't is all zero.
+pub fn in_use(state: &[u8], q: usize) -> bool
+    requires { ⌜ (length (now state) ≡ stateLength) × (q < numbers) ⌝ }
+    ensures { λ r. ⌜ r ≡ not (eqb (getD (words (now (state .entry))) (recordAt q) 0) 0) ⌝ }
+{
+    memory::get(state, RECORDS + RECORD * q) != 0
+}
+
+// The length of a list, at most sixteen whatever memory holds.
+fn most16(n: u32) -> usize
+    ensures { λ r. ⌜ (r ≤ 16) × (n ≤ 16 → r ≡ n) ⌝ }
+{
+    if n < 16 { n as usize } else { 16 }
+}
+
+// A number of terms, 1 to 8 whatever memory holds.
+fn from1to8(n: u32) -> usize
+    ensures { λ r. ⌜ (1 ≤ r) × (r ≤ 8) × (1 ≤ n → n ≤ 8 → r ≡ n) ⌝ }
+{
+    if n == 0 {
+        return 1;
+    }
+    if n < 8 { n as usize } else { 8 }
+}
+
+// A weight, 1 to 15 whatever memory holds.
+fn weight_of(pair: u32) -> u32
+    ensures { λ r. ⌜ (1 ≤ r) × (r < 16) × (1 ≤ pair % 16 → r ≡ pair % 16) ⌝ }
+{
+    if pair % 16 == 0 { 1 } else { pair % 16 }
+}
+
+// The query that the record holds.
+pub fn load_query(state: &[u8], q: usize) -> Query
+    requires { ⌜ (length (now state) ≡ stateLength) × (q < numbers) ⌝ }
+    ensures { λ r. ⌜ LoadedQuery (words (now (state .entry))) q r ⌝ }
+{
+    let at = RECORDS + RECORD * q;
+    let pairs = memory::load8(state, at + PAIRS);
+    let mut terms = [0u32; 8];
+    let mut weights = [0u32; 8];
+    let mut i: usize = 0;
+    while i < 8 {
+        let pair = pairs[i];
+        terms[i] = pair / 16;
+        weights[i] = weight_of(pair);
+        i += 1;
+    }
+    Query {
+        k: most16(memory::get(state, at)),
+        n: from1to8(memory::get(state, at + 1)),
+        terms,
+        weights,
+    }
+}
+
+// The thresholds that the record holds, none above the top of the scale.
+fn load_thresholds(state: &[u8], q: usize) -> [u32; 8]
+    requires { ⌜ (length (now state) ≡ stateLength) × (q < numbers) ⌝ }
+    ensures { λ r. ⌜ LoadedThresholds (words (now (state .entry))) q r ⌝ }
+{
+    let words = memory::load8(state, RECORDS + RECORD * q + THRESHOLDS);
+    let mut thresholds = [0u32; 8];
+    let mut i: usize = 0;
+    while i < 8 {
+        let h = words[i];
+        if h < impact::Impact::TOP {
+            thresholds[i] = h;
+        } else {
+            thresholds[i] = impact::Impact::TOP;
+        }
+        i += 1;
+    }
+    thresholds
+}
+
+// The list that the record holds.
+pub fn load_list(state: &[u8], q: usize) -> Ranked
+    requires { ⌜ (length (now state) ≡ stateLength) × (q < numbers) ⌝ }
+    ensures { λ r. ⌜ LoadedList (words (now (state .entry))) q r ⌝ }
+{
+    let at = RECORDS + RECORD * q;
+    let serials = memory::load16(state, at + SERIALS);
+    let scores = memory::load16(state, at + SCORES);
+    Ranked {
+        serials,
+        scores,
+        count: most16(memory::get(state, at + LISTED)),
+    }
+}
+
+// What is kept of a query is written.
+fn store(state: &mut [u8], q: usize, thresholds: [u32; 8], list: Ranked, flags: [u32; 9])
+    requires { ⌜ (length (now state) ≡ stateLength) × (q < numbers) ⌝ }
+    requires { ⌜ list .count ≤ 16 ⌝ }
+    ensures { λ _. ⌜ StoredKept q thresholds list flags (words (now (state .entry))) (words (now (state .exit))) ⌝ }
+{
+    let at = RECORDS + RECORD * q;
+    let count = list.count;
+    let serials = list.serials;
+    let scores = list.scores;
+    memory::put(state, at + LISTED, count as u32);
+    memory::store8(state, at + THRESHOLDS, thresholds);
+    memory::store16(state, at + SERIALS, serials);
+    memory::store16(state, at + SCORES, scores);
+    memory::store9(state, at + FLAGS, flags);
+}
+
+// The thresholds raised where the list is full and they leave room below its last score, else none.
+fn raised(query: Query, thresholds: [u32; 8], list: Ranked) -> [u32; 8]
+    requires { ⌜ InRange query ⌝ }
+    requires { ⌜ (list .count ≤ 16) × ((i : ℕ) → getD thresholds i 0 ≤ 1000) ⌝ }
+{
+    let n = query.n;
+    let weights = query.weights;
+    if list.count != query.k {
+        return [0u32; 8];
+    }
+    let kth = rank::last_score(list);
+    if rank::weighted(weights, thresholds, n) < kth {
+        return rank::raised(weights, thresholds, n, kth);
+    }
+    [0u32; 8]
+}
+
+// The thresholds raised, candidates no longer above them dropped, and all of it stored.
+fn finish(state: &mut [u8], q: usize, first: usize, count: usize, source: Source, query: Query, thresholds: [u32; 8], list: Ranked)
+    requires { ⌜ (length (now state) ≡ stateLength) × (q < numbers) × (first < slots) × (count < slots) ⌝ }
+    requires { ⌜ InRange query ⌝ }
+    requires { ⌜ (list .count ≤ 16) × ((i : ℕ) → getD thresholds i 0 ≤ 1000) ⌝ }
+    ensures { λ _. ⌜ Finished (words (now (state .entry))) q first count source query thresholds list (words (now (state .exit))) ⌝ }
+{
+    let next = raised(query, thresholds, list);
+    let flags = candidates::sifted(state, first, count, source, query, next);
+    store(state, q, next, list, flags);
+}
+
+// Whether no message that isn't among those ranked could be listed: a message that exceeds no threshold scores at most their sum.
+fn is_safe(query: Query, thresholds: [u32; 8], list: Ranked) -> bool
+    requires { ⌜ InRange query ⌝ }
+    requires { ⌜ (list .count ≤ 16) × ((i : ℕ) → getD thresholds i 0 ≤ 1000) ⌝ }
+{
+    let weights = query.weights;
+    let sum = rank::weighted(weights, thresholds, query.n);
+    if sum == 0 {
+        return true;
+    }
+    if list.count < query.k {
+        return false;
+    }
+    sum < rank::last_score(list)
+}
+
+// The query is settled over the whole window, from zero thresholds.
+fn refill(state: &mut [u8], q: usize, first: usize, count: usize, query: Query)
+    requires { ⌜ (length (now state) ≡ stateLength) × (q < numbers) × (first < slots) × (count < slots) ⌝ }
+    requires { ⌜ InRange query ⌝ }
+    ensures { λ _. ⌜ Refilled (words (now (state .entry))) q first count query (words (now (state .exit))) ⌝ }
+{
+    let source = Source {
+        flags: [0u32; 9],
+        newest: window::SLOTS,
+        above: false,
+        all: true,
+    };
+    let list = candidates::ranked(state, first, count, source, query);
+    finish(state, q, first, count, source, query, [0u32; 8], list);
+}
+
+// The query is settled from its candidates, or from the whole window where they aren't enough.
+fn settle(state: &mut [u8], q: usize, first: usize, count: usize, source: Source, query: Query, thresholds: [u32; 8])
+    requires { ⌜ (length (now state) ≡ stateLength) × (q < numbers) × (first < slots) × (count < slots) ⌝ }
+    requires { ⌜ InRange query ⌝ }
+    requires { ⌜ ((i : ℕ) → getD thresholds i 0 ≤ 1000) ⌝ }
+    ensures { λ _. ⌜ SettledFrom (words (now (state .entry))) q first count source query thresholds (words (now (state .exit))) ⌝ }
+{
+    let list = candidates::ranked(state, first, count, source, query);
+    if is_safe(query, thresholds, list) {
+        finish(state, q, first, count, source, query, thresholds, list);
+    } else {
+        refill(state, q, first, count, query);
+    }
+}
+
+// A query is updated where a frame reaches it: `departed` messages from slot `gone` on left, and one arrived in slot `newest` where that is one.
+pub fn update(state: &mut [u8], q: usize, gone: usize, departed: usize, first: usize, count: usize, newest: usize) -> bool
+    requires { ⌜ (length (now state) ≡ stateLength) × (q < numbers) × (first < slots) × (count < slots) ⌝ }
+    requires { ⌜ gone < slots ⌝ }
+    ensures { λ r. ⌜ Updated (words (now (state .entry))) q gone departed first count newest r (words (now (state .exit))) ⌝ }
+{
+    let query = load_query(state, q);
+    let thresholds = load_thresholds(state, q);
+    let mut above = false;
+    if newest < window::SLOTS {
+        above = candidates::exceeds_in(state, newest, query, thresholds);
+    }
+    if !above {
+        if !candidates::reaches(state, gone, departed, query, thresholds) {
+            return false;
+        }
+    }
+    let source = Source {
+        flags: memory::load9(state, RECORDS + RECORD * q + FLAGS),
+        newest,
+        above,
+        all: false,
+    };
+    settle(state, q, first, count, source, query, thresholds);
+    true
+}
+
+// A record becomes all zero.
+pub fn clear(state: &mut [u8], q: usize)
+    requires { ⌜ (length (now state) ≡ stateLength) × (q < numbers) ⌝ }
+    ensures { λ _. ⌜ Cleared (words (now (state .entry))) q (words (now (state .exit))) ⌝ }
+{
+    let at = RECORDS + RECORD * q;
+    let mut i: usize = 0;
+    while i < RECORD {
+        memory::put(state, at + i, 0);
+        i += 1;
+    }
+}
+
+// A query is registered over the window.
+pub fn register(state: &mut [u8], q: usize, k: u32, n: usize, terms: [u32; 16], weights: [u32; 16], first: usize, count: usize)
+    requires { ⌜ (length (now state) ≡ stateLength) × (q < numbers) × (first < slots) × (count < slots) ⌝ }
+    requires { ⌜ (1 ≤ k) × (k ≤ 16) × (1 ≤ n) × (n ≤ 8) ⌝ }
+    requires { ⌜ ((i : ℕ) → i < n → (getD terms i 0 < 1024) × (getD weights i 0 < 16)) ⌝ }
+    ensures { λ _. ⌜ Registered (words (now (state .entry))) q first count (record { k = k; terms = side-by-side n terms weights }) (words (now (state .exit))) ⌝ }
+{
+    let at = RECORDS + RECORD * q;
+    memory::put(state, at, k);
+    memory::put(state, at + 1, n as u32);
+    let mut i: usize = 0;
+    while i < n {
+        memory::put(state, at + PAIRS + i, terms[i] * 16 + weights[i]);
+        i += 1;
+    }
+    let query = load_query(state, q);
+    refill(state, q, first, count, query);
+}

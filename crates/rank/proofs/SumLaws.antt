@@ -1,0 +1,71 @@
+-- Weighted sums and exceeded thresholds: one place more, how large they get, and a value that rises. Assumes nothing.
+use Prim.Native.Nat.{ℕ, zero, suc, _+_, _*_, _≤_, _<_, suc-le-suc}
+use native.Mathlib.Nat.{le-of-suc-le-suc, not-suc-le-zero, mul-le-mul, mul-add}
+use native.Mathlib.Numerals.{add-one}
+use native.Mathlib.Omega.{arith}
+use mathlib.Core.Path.{_≡_, refl}
+use mathlib.Core.Bool.{true, false, or-true}
+use mathlib.Core.List.{List, [], _∷_}
+use lib.ListN.{length, getD, set}
+use lib.Dec.{ltb}
+use borrow.Author.Tests.{lt-ltb, le-ltb}
+use Rattle.rank.specs.Weights.{weightLimit, valueLimit, Below, weightedSum, exceeding}
+
+-- ---- sums
+
+-- no product is above that of the limits
+abbrev pub most : ℕ
+most = weightLimit * valueLimit
+
+pub product-most : (w v : ℕ) → w < weightLimit → v < valueLimit → w * v ≤ most
+product-most w v hw hv = mul-le-mul {n₂ = weightLimit} {m₂ = valueLimit} (omega arith) (omega arith)
+
+pub sum-most : (n : ℕ) (ws vs : List ℕ) → Below n weightLimit ws → Below n valueLimit vs → weightedSum n ws vs ≤ n * most
+unfolding weightedSum
+sum-most zero ws vs bw bv = omega arith
+sum-most (suc n) [] vs bw bv = omega arith
+sum-most (suc n) (w ∷ ws) [] bw bv = omega arith
+sum-most (suc n) (w ∷ ws) (v ∷ vs) bw bv =
+    let h = product-most w v (bw 0 (omega arith)) (bv 0 (omega arith)) in
+    let ih = sum-most n ws vs (λ i h. bw (suc i) (suc-le-suc h)) (λ i h. bv (suc i) (suc-le-suc h)) in
+    omega arith
+
+sum-suc : (i : ℕ) (ws vs : List ℕ) → i < length ws → i < length vs → weightedSum (suc i) ws vs ≡ weightedSum i ws vs + getD ws i 0 * getD vs i 0
+unfolding weightedSum
+sum-suc i [] vs hw hv = absurd (not-suc-le-zero hw)
+sum-suc i (w ∷ ws) [] hw hv = absurd (not-suc-le-zero hv)
+sum-suc zero (w ∷ ws) (v ∷ vs) hw hv = omega arith
+sum-suc (suc i) (w ∷ ws) (v ∷ vs) hw hv = let ih = sum-suc i ws vs (le-of-suc-le-suc hw) (le-of-suc-le-suc hv) in omega arith
+
+-- a turn of the loop of `weighted`
+pub sum-turn : (i : ℕ) (ws vs : List ℕ) → i < length ws → i < length vs → weightedSum (i + 1) ws vs ≡ weightedSum i ws vs + getD ws i 0 * getD vs i 0
+sum-turn i ws vs hw hv = rw add-one (sum-suc i ws vs hw hv)
+
+-- one value rises
+pub sum-rise : (n i up : ℕ) (ws vs : List ℕ) → i < n → i < length ws → i < length vs
+    → weightedSum n ws (set vs i (getD vs i 0 + up)) ≡ weightedSum n ws vs + getD ws i 0 * up
+unfolding weightedSum
+sum-rise zero i up ws vs hn hw hv = absurd (not-suc-le-zero hn)
+sum-rise (suc n) i up [] vs hn hw hv = absurd (not-suc-le-zero hw)
+sum-rise (suc n) i up (w ∷ ws) [] hn hw hv = absurd (not-suc-le-zero hv)
+sum-rise (suc n) zero up (w ∷ ws) (v ∷ vs) hn hw hv = rw (mul-add w v up) (omega arith)
+sum-rise (suc n) (suc i) up (w ∷ ws) (v ∷ vs) hn hw hv =
+    let ih = sum-rise n i up ws vs (le-of-suc-le-suc hn) (le-of-suc-le-suc hw) (le-of-suc-le-suc hv) in omega arith
+
+-- ---- exceeded thresholds
+
+pub exceeding-here : (n i : ℕ) (hs vs : List ℕ) → i < n → i < length hs → i < length vs → getD hs i 0 < getD vs i 0 → exceeding n hs vs ≡ true
+unfolding exceeding
+exceeding-here zero i hs vs hn hh hv lt = absurd (not-suc-le-zero hn)
+exceeding-here (suc n) i [] vs hn hh hv lt = absurd (not-suc-le-zero hh)
+exceeding-here (suc n) i (h ∷ hs) [] hn hh hv lt = absurd (not-suc-le-zero hv)
+exceeding-here (suc n) zero (h ∷ hs) (v ∷ vs) hn hh hv lt = rw (lt-ltb h v lt)
+exceeding-here (suc n) (suc i) (h ∷ hs) (v ∷ vs) hn hh hv lt =
+    rw (exceeding-here n i hs vs (le-of-suc-le-suc hn) (le-of-suc-le-suc hh) (le-of-suc-le-suc hv) lt) (or-true (ltb h v))
+
+pub exceeding-none : (n : ℕ) (hs vs : List ℕ) → ((i : ℕ) → i < n → getD vs i 0 ≤ getD hs i 0) → exceeding n hs vs ≡ false
+unfolding exceeding
+exceeding-none zero hs vs f = refl
+exceeding-none (suc n) [] vs f = refl
+exceeding-none (suc n) (h ∷ hs) [] f = refl
+exceeding-none (suc n) (h ∷ hs) (v ∷ vs) f = rw (le-ltb h v (f 0 (omega arith))) (exceeding-none n hs vs (λ i h. f (suc i) (suc-le-suc h)))
