@@ -14,7 +14,7 @@ use Rattle.paper.specs.Threshold.{reached}
 use Rattle.paper.specs.Demand3.{marked, bitmap}
 use Rattle.memory.specs.Words.{words}
 use Rattle.memory.specs.Keeps.{Keeps}
-use Rattle.window.specs.Layout.{slots, stateWords, clockAt, oldestAt, countAt, recordAt, recordWords}
+use Rattle.window.specs.Layout.{slots, clockAt, oldestAt, countAt, recordAt, recordWords}
 use Rattle.window.specs.Cursor.{Written}
 use Rattle.query.specs.Record.{thresholds, HoldsAt}
 use Rattle.query.specs.Post.{Change}
@@ -39,9 +39,8 @@ reachedIn w q (some query) ms = reached (query .terms) (thresholds w q (length (
 
 -- the first m records are updated for a change of the window, and the marks of those reached are set
 pub record Passed (m : ℕ) (w : List ℕ) (o d o′ count newest marks : ℕ) (w′ : List ℕ) : Type 0 where
-  pub keeps : Keeps (recordAt 0) stateWords w w′
+  pub keeps : Keeps (recordAt 0) (recordAt m) w w′
   pub small : marks < 2 ^ m
-  pub later : (q : ℕ) → m ≤ q → q < numbers → SameRecord w w′ q
   pub right : (s : ℕ) (ga sa ca : List Message) (qs : List (Option Query)) → Change w o d o′ s newest ga sa ca → count ≡ s + length ca → Queries qs
       → ((q : ℕ) → q < numbers → HoldsAt w q o (d + s) (ga ++ sa) (getD qs q none))
       → ((q : ℕ) → q < m → HoldsAt w′ q o′ count (sa ++ ca) (getD qs q none))

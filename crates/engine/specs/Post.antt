@@ -43,11 +43,13 @@ pub record StartPost (N T : ℕ) (s : List ℕ) (r : ℕ) (s′ : List ℕ) : Ty
 
 -- ---- frame
 
--- For memory that holds a log: the reply and the log after the call are the paper's; a record that the call doesn't mark is the same bytes.
+-- For memory that holds a log: the reply and the log after the call are the paper's; a record that the call doesn't mark is the same bytes, and so
+-- keeps the same.
 pub record FrameRight (log : Log) (s bytes : List ℕ) (r : Reply) (s′ : List ℕ) : Type 0 where
   pub reply : replyOf r ≡ replyTo 0 log (keeping (words s)) (callOf s bytes)
   pub holds : Represents (after 0 log (callOf s bytes)) (words s′)
-  pub untouched : (q : ℕ) → q < numbers → markedBy 0 log (keeping (words s)) (callOf s bytes) q ≡ false → recordBytes s′ q ≡ recordBytes s q
+  pub untouched : (q : ℕ) → q < numbers → markedBy 0 log (keeping (words s)) (callOf s bytes) q ≡ false
+      → (recordBytes s′ q ≡ recordBytes s q) × (keeping (words s′) q ≡ keeping (words s) q)
 
 -- "Order for a frame: state length (12), then 1 to 10." Whatever the memory holds, 12 and 1 to 6 are by the lengths and bytes alone, and
 -- "A refusal returns its number, all else returned is 0, and no memory changes."

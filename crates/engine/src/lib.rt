@@ -1,7 +1,9 @@
 // The engine: frames in, a ranked list for each registered query kept in lent memory.
 ghost use mathlib.Core.Path.{_≡_};
-ghost use Prim.Native.Nat.{ℕ, _+_, _*_, _<_, _≤_, _^_};
-ghost use lib.ListN.{length, getD};
+ghost use Prim.Native.Nat.{ℕ, _+_, _*_, _%_, _<_, _≤_, _^_};
+ghost use mathlib.Core.Bool.{_&&_};
+ghost use lib.Dec.{leb, ltb};
+ghost use lib.ListN.{length, getD, replicate};
 ghost use Rattle.paper.specs.Frame.{Frame};
 ghost use Rattle.paper.specs.Write.{side-by-side};
 ghost use Rattle.paper.specs.Log.{stateLength, numbers};
@@ -10,7 +12,6 @@ ghost use Rattle.window.specs.Layout.{slots};
 ghost use Rattle.engine.specs.Post.{StartPost, FramePost, ListPost};
 ghost use Rattle.window.specs.Cursor.{Moved};
 ghost use Rattle.engine.specs.Inner.{PutCursor, Passed, Joined, Did, Ticked};
-
 use frame::Kind;
 use rank::Ranked;
 use window::Cursor;
@@ -49,36 +50,67 @@ fn mark(q: usize) -> u32
     1u32 << q
 }
 
-pub fn start(state: &mut [u8], capacity: u32, life: u32) -> u32
-    ensures { λ r. ⌜ StartPost capacity life (now (state .entry)) r (now (state .exit)) ⌝ }
+// Marks with that of q, which isn't among them.
+fn with_mark(marks: u32, q: usize) -> u32
+    requires { ⌜ q < 32 ⌝ }
+    ensures { λ r. ⌜ r ≡ (marks + 2 ^ q) % 2 ^ 32 ⌝ }
+{
+    ((marks as u64 + mark(q) as u64) % 4294967296) as u32
+}
+
+// Whether N and T are within their ranges.
+fn in_range(capacity: u32, life: u32) -> bool
+    ensures { λ r. ⌜ r ≡ (ltb 0 capacity && leb capacity 256 && (ltb 0 life && leb life 65535)) ⌝ }
 {
     if capacity == 0 {
-        return 11;
+        return false;
     }
     if 256 < capacity {
-        return 11;
+        return false;
     }
     if life == 0 {
-        return 11;
+        return false;
     }
-    if 65535 < life {
-        return 11;
-    }
-    if state.len() != window::STATE {
-        return 12;
-    }
+    life <= 65535
+}
+
+// Every byte becomes 0.
+fn zeroed(state: &mut [u8])
+    ensures { λ _. ⌜ now (state .exit) ≡ replicate (length (now (state .entry))) 0 ⌝ }
+{
     let mut i: usize = 0;
     while i < state.len() {
         state[i] = 0;
         i += 1;
     }
+}
+
+pub fn start(state: &mut [u8], capacity: u32, life: u32) -> u32
+    ensures { λ r. ⌜ StartPost capacity life (now (state .entry)) r (now (state .exit)) ⌝ }
+{
+    let within = in_range(capacity, life);
+    let length = state.len();
+    if !within {
+        return 11;
+    }
+    if length != window::STATE {
+        return 12;
+    }
+    zeroed(state);
     memory::put(state, 0, capacity);
     memory::put(state, 1, life);
     0
 }
 
 // Every registered query is updated where the frame reaches it; the marks of those.
-fn update_all(state: &mut [u8], gone: usize, departed: usize, first: usize, count: usize, newest: usize) -> u32
+fn update_all(
+    state: &mut [u8],
+    gone: usize,
+    departed: usize,
+    first: usize,
+    count: usize,
+    newest: usize,
+) -> u32
     requires { ⌜ length (now state) ≡ stateLength ⌝ }
     requires { ⌜ (gone < slots) × (first < slots) × (count < slots) ⌝ }
     ensures { λ r. ⌜ Passed numbers (words (now (state .entry))) gone departed first count newest r (words (now (state .exit))) ⌝ }
@@ -116,7 +148,16 @@ fn capacity_of(state: &[u8]) -> u32
 }
 
 // A message joins the window: `had` slots from slot `gone` on before, `count` from slot `oldest` on stay.
-fn join(state: &mut [u8], before: Cursor, after: Cursor, time: u32, serial: u32, m: usize, terms: [u32; 16], counts: [u32; 16]) -> Reply
+fn join(
+    state: &mut [u8],
+    before: Cursor,
+    after: Cursor,
+    time: u32,
+    serial: u32,
+    m: usize,
+    terms: [u32; 16],
+    counts: [u32; 16],
+) -> Reply
     requires { ⌜ (length (now state) ≡ stateLength) × (m ≤ 16) ⌝ }
     requires { ⌜ ((i : ℕ) → i < m → (getD terms i 0 < 1024) × (getD counts i 0 < 256)) ⌝ }
     requires { ⌜ (before .oldest < slots) × (before .count < slots) × (after .count < 256) × Moved (before .oldest) (before .count) (after .oldest) (after .count) ⌝ }
@@ -137,7 +178,14 @@ fn join(state: &mut [u8], before: Cursor, after: Cursor, time: u32, serial: u32,
     }
 }
 
-fn message(state: &mut [u8], time: u32, serial: u32, m: usize, terms: [u32; 16], counts: [u32; 16]) -> Reply
+fn message(
+    state: &mut [u8],
+    time: u32,
+    serial: u32,
+    m: usize,
+    terms: [u32; 16],
+    counts: [u32; 16],
+) -> Reply
     requires { ⌜ length (now state) ≡ stateLength ⌝ }
     requires { ⌜ (1 ≤ m) × (m ≤ 16) ⌝ }
     requires { ⌜ ((i : ℕ) → i < m → (getD terms i 0 < 1024) × (getD counts i 0 < 256)) ⌝ }
@@ -188,7 +236,15 @@ fn tick(state: &mut [u8], time: u32) -> Reply
     advance(state, time)
 }
 
-fn register(state: &mut [u8], time: u32, number: usize, k: u32, n: usize, terms: [u32; 16], weights: [u32; 16]) -> Reply
+fn register(
+    state: &mut [u8],
+    time: u32,
+    number: usize,
+    k: u32,
+    n: usize,
+    terms: [u32; 16],
+    weights: [u32; 16],
+) -> Reply
     requires { ⌜ length (now state) ≡ stateLength ⌝ }
     requires { ⌜ (number < 32) × (1 ≤ k) × (k ≤ 16) × (1 ≤ n) × (n ≤ 8) ⌝ }
     requires { ⌜ ((i : ℕ) → i < n → (getD terms i 0 < 1024) × (getD weights i 0 < 16)) ⌝ }
@@ -202,10 +258,12 @@ fn register(state: &mut [u8], time: u32, number: usize, k: u32, n: usize, terms:
     }
     let reply = advance(state, time);
     let cursor = Cursor::load(state);
-    query::register(state, number, k, n, terms, weights, cursor.oldest, cursor.count);
+    let oldest = cursor.oldest;
+    let count = cursor.count;
+    query::register(state, number, k, n, terms, weights, oldest, count);
     Reply {
         number: 0,
-        marks: reply.marks + mark(number),
+        marks: with_mark(reply.marks, number),
         departures: reply.departures,
     }
 }
@@ -225,7 +283,7 @@ fn unregister(state: &mut [u8], time: u32, number: usize) -> Reply
     let reply = advance(state, time);
     Reply {
         number: 0,
-        marks: reply.marks + mark(number),
+        marks: with_mark(reply.marks, number),
         departures: reply.departures,
     }
 }
@@ -241,7 +299,11 @@ pub fn frame(state: &mut [u8], bytes: &[u8]) -> Reply
     let terms = parsed.terms;
     let amounts = parsed.amounts;
     match what {
-        Kind::Message { time, serial, pairs } => message(state, time, serial, pairs, terms, amounts),
+        Kind::Message {
+            time,
+            serial,
+            pairs,
+        } => message(state, time, serial, pairs, terms, amounts),
         Kind::Tick { time } => tick(state, time),
         Kind::Register {
             time,

@@ -13,7 +13,7 @@ use Rattle.paper.proofs.Tests.{or-false, not-refused}
 use Rattle.paper.specs.Frame.{Pair, Frame, Shape, Valid, shape}
 use Rattle.paper.specs.Frame.Frame.{message, tick, register, unregister}
 use Rattle.paper.specs.Frame.Shape.{refused, accepted}
-use Rattle.paper.specs.Window.{Message, inForce, departing}
+use Rattle.paper.specs.Window.{Message, standing, inForce, departing}
 use Rattle.paper.specs.Rank.{Query}
 use Rattle.paper.specs.Log.{Log, Call, fresh, numbers, inForceNow, inForceAt, hasSerial, timeOf, judgeKind, judgeFrame, judgeShape, lent, judge, arrivals, queriesAfter, accept, acceptShape, after, replay, departs}
 use Rattle.paper.specs.Sound.{From, Chronological, Distinct, Messages, Terms, Queries, Sound}
@@ -65,9 +65,25 @@ distinct-snoc (x ∷ l) m d e =
 
 -- ---- fields within their ranges
 
-messages-append : (l new : List Message) → Messages l → Messages new → Messages (l ++ new)
+pub messages-append : (l new : List Message) → Messages l → Messages new → Messages (l ++ new)
 messages-append [] new a b = b
 messages-append (m ∷ l) new a b = (a .0, a .1, messages-append l new (a .2) b)
+
+pub messages-parts : (l new : List Message) → Messages (l ++ new) → Messages l × Messages new
+messages-parts [] new a = (tt, a)
+messages-parts (m ∷ l) new a = let p = messages-parts l new (a .2) in ((a .0, a .1, p .0), p .1)
+
+messages-in-force : (N T t : ℕ) (l : List Message) → Messages l → Messages (inForce N T t l)
+unfolding inForce
+messages-in-force N T t [] a = tt
+messages-in-force N T t (m ∷ l) a = go (standing N T t (length l) m) (messages-in-force N T t l (a .2))
+  where
+    go : (b : Bool) → Messages (inForce N T t l) → Messages (cond b (m ∷ inForce N T t l) (inForce N T t l))
+    go true ih = (a .0, a .1, ih)
+    go false ih = ih
+
+pub in-force-valid : (log : Log) → Sound log → Messages (inForceNow log)
+in-force-valid log sound = messages-in-force (log .N) (log .T) (log .clock) (log .messages) (sound .messages)
 
 empty-queries : (n : ℕ) → Queries (replicate n none)
 empty-queries zero = tt
@@ -80,7 +96,7 @@ some-query (some x ∷ qs) zero q a t = (t, a .1)
 some-query (none ∷ qs) (suc n) q a t = some-query qs n q a t
 some-query (some x ∷ qs) (suc n) q a t = (a .0, some-query qs n q (a .1) t)
 
-no-query : (qs : List (Option Query)) (n : ℕ) → Queries qs → Queries (set qs n none)
+pub no-query : (qs : List (Option Query)) (n : ℕ) → Queries qs → Queries (set qs n none)
 no-query [] n a = tt
 no-query (none ∷ qs) zero a = a
 no-query (some x ∷ qs) zero a = a .1

@@ -16,7 +16,7 @@ use Rattle.paper.specs.Sound.{From, Chronological}
 -- ---- one message
 
 module _ (N T : ℕ) where
-  stands : (t j : ℕ) (m : Message) → standing N T t j m ≡ true → (j < N) × (t - m .time < T)
+  pub stands : (t j : ℕ) (m : Message) → standing N T t j m ≡ true → (j < N) × (t - m .time < T)
   stands t j m e =
       let p = and-true (ltb j N) (not (leb T (t - m .time))) e in
       (ltb-true j N (p .0), leb-false T (t - m .time) (not-true (leb T (t - m .time)) (p .1)))
@@ -53,7 +53,7 @@ module _ (N T : ℕ) where
 
   -- ---- where one message stands, so do all after it
 
-  all-stay : (t more x : ℕ) (l : List Message) → length l + more ≤ N → t - x < T → From x l → staying t more l ≡ l
+  pub all-stay : (t more x : ℕ) (l : List Message) → length l + more ≤ N → t - x < T → From x l → staying t more l ≡ l
   unfolding staying
   all-stay t more x [] hn ht f = refl
   all-stay t more x (m ∷ l) hn ht f =

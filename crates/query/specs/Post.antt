@@ -1,10 +1,10 @@
 -- What each function over a record ensures. Assumes nothing.
 use Prim.Native.Nat.{ℕ, _+_, _≤_, _<_}
 use mathlib.Core.Path.{_≡_}
-use mathlib.Core.Bool.{Bool, true, false, cond}
+use mathlib.Core.Bool.{Bool, true, false, cond, _&&_, _||_}
 use mathlib.Core.List.{List, [], _∷_, _++_, map}
 use lib.ListN.{length, getD, take, drop}
-use lib.Dec.{ltb}
+use lib.Dec.{eqb, leb, ltb}
 use Rattle.paper.specs.Impact.{top}
 use Rattle.paper.specs.Rank.{lines, ranking}
 use Rattle.paper.specs.Rank as Rank
@@ -15,17 +15,24 @@ use Rattle.paper.specs.Sound.{Messages, Terms}
 use Rattle.memory.specs.Keeps.{Keeps}
 use Rattle.impact.specs.Cell.{RisingTerms}
 use Rattle.rank.specs.declared.Ranked.{Ranked}
-use Rattle.rank.specs.Listing.{linesOf, Tidy}
+use Rattle.rank.specs.Listing.{linesOf, lastOf, Tidy}
+use Rattle.rank.specs.Weights.{weightedSum, Raised}
 use Rattle.window.specs.Layout.{slots, recordAt, recordWords}
 use Rattle.window.specs.Slot.{slot, stored, ring, window}
 use Rattle.candidates.specs.declared.Query.{Query}
 use Rattle.candidates.specs.declared.Source.{Source}
-use Rattle.candidates.specs.Match.{exceedsCells}
+use Rattle.candidates.specs.Match.{exceedsCells, reachedSlots, AllRising}
 use Rattle.candidates.specs.Source.{inRing}
-use Rattle.candidates.specs.Post.{termsOf, takes}
+use Rattle.candidates.specs.Post.{termsOf, Rising, takes}
 use Rattle.query.specs.Record.{thresholdsIn, serialsIn, scoresIn, flagsIn, listedIn, thresholds, Says, Holds}
 
 -- ---- reading
+
+-- a value brought into a range: itself where it lies there
+pub record Clamped (least most v r : ℕ) : Type 0 where
+  pub at-least : least ≤ r
+  pub at-most : r ≤ most
+  pub is : least ≤ v → v ≤ most → r ≡ v
 
 -- ranges that hold whatever memory says
 pub record InRange (r : Query) : Type 0 where
@@ -55,6 +62,24 @@ pub record LoadedList (w : List ℕ) (q : ℕ) (r : Ranked) : Type 0 where
   pub count-is : getD w (listedIn q) 0 ≤ 16 → r .count ≡ getD w (listedIn q) 0
   pub serials : r .serials ≡ take 16 (drop (serialsIn q) w)
   pub scores : r .scores ≡ take 16 (drop (scoresIn q) w)
+
+-- ---- thresholds beside a list
+
+abbrev pub sumOf : Query → List ℕ → ℕ
+sumOf r hs = weightedSum (r .n) (r .weights) hs
+
+-- the list is full, and the threshold sum is below its last score
+abbrev pub Room : Query → List ℕ → Ranked → Type 0
+Room r hs list = (list .count ≡ r .k) × (sumOf r hs < lastOf (linesOf list))
+
+-- the thresholds raised until tight where there is room, else none
+pub record Lifted (r : Query) (hs : List ℕ) (list : Ranked) (hs′ : List ℕ) : Type 0 where
+  pub room : Room r hs list → Raised (r .n) (r .weights) hs (lastOf (linesOf list)) hs′
+  pub none : (Room r hs list → ⊥) → (i : ℕ) → getD hs′ i 0 ≡ 0
+
+-- whether no message that scores at most the threshold sum could be listed
+unfoldable pub secure : Query → List ℕ → Ranked → Bool
+secure r hs list = eqb (sumOf r hs) 0 || (leb (r .k) (list .count) && ltb (sumOf r hs) (lastOf (linesOf list)))
 
 -- ---- writing
 
@@ -109,6 +134,14 @@ pub record SettledFrom (w : List ℕ) (q first count : ℕ) (s : Source) (r : Qu
 abbrev pub arriving : ℕ → List ℕ
 arriving newest = cond (ltb newest slots) (newest ∷ []) []
 
+-- whether an arriving message exceeds one of the thresholds
+pub record Arriving (w : List ℕ) (newest : ℕ) (r : Query) (hs : List ℕ) (b : Bool) : Type 0 where
+  pub right : AllRising (map (slot w) (arriving newest)) → Rising r → b ≡ reachedSlots (termsOf r) (take (r .n) hs) (map (slot w) (arriving newest))
+
+-- whether that one does, or one of the d messages from slot o on
+pub record Reached (w : List ℕ) (o d : ℕ) (above : Bool) (r : Query) (hs : List ℕ) (b : Bool) : Type 0 where
+  pub right : AllRising (window w o d) → Rising r → b ≡ (above || reachedSlots (termsOf r) (take (r .n) hs) (window w o d))
+
 -- A change of the window: of d + s slots from slot o on, those that hold `ga` go and the s from slot o′ on, which hold `sa`, stay; `ca` come.
 pub record Change (w : List ℕ) (o d o′ s newest : ℕ) (ga sa ca : List Message) : Type 0 where
   pub first-below : o < slots
@@ -132,6 +165,11 @@ pub record Updated (w : List ℕ) (q o d o′ count newest : ℕ) (r : Bool) (w�
   pub right : (s : ℕ) (ga sa ca : List Message) (query : Rank.Query) → Change w o d o′ s newest ga sa ca → count ≡ s + length ca → Terms query
       → Holds w q o (d + s) (ga ++ sa) query
       → (r ≡ reaches w q ga ca query) × Holds w′ q o′ count (sa ++ ca) query
+
+-- a query is written, with nothing kept of it yet
+pub record PutQuery (q : ℕ) (query : Rank.Query) (w w′ : List ℕ) : Type 0 where
+  pub keeps : Keeps (recordAt q) (listedIn q) w w′
+  pub says : Says w′ q query
 
 -- a new query, settled over the window; the record was all zero
 pub record Registered (w : List ℕ) (q first count : ℕ) (query : Rank.Query) (w′ : List ℕ) : Type 0 where

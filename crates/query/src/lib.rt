@@ -10,8 +10,7 @@ ghost use Rattle.memory.specs.Words.{words};
 ghost use Rattle.window.specs.Layout.{slots, recordAt};
 ghost use Rattle.rank.specs.Listing.{linesOf};
 ghost use Rattle.query.specs.Record.{Says};
-ghost use Rattle.query.specs.Post.{InRange, LoadedQuery, LoadedThresholds, LoadedList, StoredKept, Finished, Refilled, SettledFrom, Updated, Registered, Cleared};
-
+ghost use Rattle.query.specs.Post.{Clamped, InRange, LoadedQuery, LoadedThresholds, LoadedList, Lifted, secure, StoredKept, Finished, Refilled, SettledFrom, Arriving, Reached, Updated, PutQuery, Registered, Cleared};
 use candidates::Query;
 use candidates::Source;
 use rank::Ranked;
@@ -41,28 +40,15 @@ pub fn in_use(state: &[u8], q: usize) -> bool
     memory::get(state, RECORDS + RECORD * q) != 0
 }
 
-// The length of a list, at most sixteen whatever memory holds.
-fn most16(n: u32) -> usize
-    ensures { λ r. ⌜ (r ≤ 16) × (n ≤ 16 → r ≡ n) ⌝ }
+// A value brought into a range, whatever memory holds.
+fn clamped(v: u32, least: u32, most: u32) -> u32
+    requires { ⌜ least ≤ most ⌝ }
+    ensures { λ r. ⌜ Clamped least most v r ⌝ }
 {
-    if n < 16 { n as usize } else { 16 }
-}
-
-// A number of terms, 1 to 8 whatever memory holds.
-fn from1to8(n: u32) -> usize
-    ensures { λ r. ⌜ (1 ≤ r) × (r ≤ 8) × (1 ≤ n → n ≤ 8 → r ≡ n) ⌝ }
-{
-    if n == 0 {
-        return 1;
+    if v < least {
+        return least;
     }
-    if n < 8 { n as usize } else { 8 }
-}
-
-// A weight, 1 to 15 whatever memory holds.
-fn weight_of(pair: u32) -> u32
-    ensures { λ r. ⌜ (1 ≤ r) × (r < 16) × (1 ≤ pair % 16 → r ≡ pair % 16) ⌝ }
-{
-    if pair % 16 == 0 { 1 } else { pair % 16 }
+    if v < most { v } else { most }
 }
 
 // The query that the record holds.
@@ -78,12 +64,12 @@ pub fn load_query(state: &[u8], q: usize) -> Query
     while i < 8 {
         let pair = pairs[i];
         terms[i] = pair / 16;
-        weights[i] = weight_of(pair);
+        weights[i] = clamped(pair % 16, 1, 15);
         i += 1;
     }
     Query {
-        k: most16(memory::get(state, at)),
-        n: from1to8(memory::get(state, at + 1)),
+        k: clamped(memory::get(state, at), 0, 16) as usize,
+        n: clamped(memory::get(state, at + 1), 1, 8) as usize,
         terms,
         weights,
     }
@@ -98,12 +84,7 @@ fn load_thresholds(state: &[u8], q: usize) -> [u32; 8]
     let mut thresholds = [0u32; 8];
     let mut i: usize = 0;
     while i < 8 {
-        let h = words[i];
-        if h < impact::Impact::TOP {
-            thresholds[i] = h;
-        } else {
-            thresholds[i] = impact::Impact::TOP;
-        }
+        thresholds[i] = clamped(words[i], 0, impact::Impact::TOP);
         i += 1;
     }
     thresholds
@@ -120,7 +101,7 @@ pub fn load_list(state: &[u8], q: usize) -> Ranked
     Ranked {
         serials,
         scores,
-        count: most16(memory::get(state, at + LISTED)),
+        count: clamped(memory::get(state, at + LISTED), 0, 16) as usize,
     }
 }
 
@@ -145,6 +126,7 @@ fn store(state: &mut [u8], q: usize, thresholds: [u32; 8], list: Ranked, flags: 
 fn raised(query: Query, thresholds: [u32; 8], list: Ranked) -> [u32; 8]
     requires { ⌜ InRange query ⌝ }
     requires { ⌜ (list .count ≤ 16) × ((i : ℕ) → getD thresholds i 0 ≤ 1000) ⌝ }
+    ensures { λ r. ⌜ Lifted query thresholds list r ⌝ }
 {
     let n = query.n;
     let weights = query.weights;
@@ -159,7 +141,16 @@ fn raised(query: Query, thresholds: [u32; 8], list: Ranked) -> [u32; 8]
 }
 
 // The thresholds raised, candidates no longer above them dropped, and all of it stored.
-fn finish(state: &mut [u8], q: usize, first: usize, count: usize, source: Source, query: Query, thresholds: [u32; 8], list: Ranked)
+fn finish(
+    state: &mut [u8],
+    q: usize,
+    first: usize,
+    count: usize,
+    source: Source,
+    query: Query,
+    thresholds: [u32; 8],
+    list: Ranked,
+)
     requires { ⌜ (length (now state) ≡ stateLength) × (q < numbers) × (first < slots) × (count < slots) ⌝ }
     requires { ⌜ InRange query ⌝ }
     requires { ⌜ (list .count ≤ 16) × ((i : ℕ) → getD thresholds i 0 ≤ 1000) ⌝ }
@@ -174,6 +165,7 @@ fn finish(state: &mut [u8], q: usize, first: usize, count: usize, source: Source
 fn is_safe(query: Query, thresholds: [u32; 8], list: Ranked) -> bool
     requires { ⌜ InRange query ⌝ }
     requires { ⌜ (list .count ≤ 16) × ((i : ℕ) → getD thresholds i 0 ≤ 1000) ⌝ }
+    ensures { λ r. ⌜ r ≡ secure query thresholds list ⌝ }
 {
     let weights = query.weights;
     let sum = rank::weighted(weights, thresholds, query.n);
@@ -203,7 +195,15 @@ fn refill(state: &mut [u8], q: usize, first: usize, count: usize, query: Query)
 }
 
 // The query is settled from its candidates, or from the whole window where they aren't enough.
-fn settle(state: &mut [u8], q: usize, first: usize, count: usize, source: Source, query: Query, thresholds: [u32; 8])
+fn settle(
+    state: &mut [u8],
+    q: usize,
+    first: usize,
+    count: usize,
+    source: Source,
+    query: Query,
+    thresholds: [u32; 8],
+)
     requires { ⌜ (length (now state) ≡ stateLength) × (q < numbers) × (first < slots) × (count < slots) ⌝ }
     requires { ⌜ InRange query ⌝ }
     requires { ⌜ ((i : ℕ) → getD thresholds i 0 ≤ 1000) ⌝ }
@@ -217,25 +217,58 @@ fn settle(state: &mut [u8], q: usize, first: usize, count: usize, source: Source
     }
 }
 
+// Whether the message in slot `newest`, where that is one, exceeds one of the thresholds.
+fn newest_exceeds(state: &[u8], newest: usize, query: Query, thresholds: [u32; 8]) -> bool
+    requires { ⌜ (length (now state) ≡ stateLength) × (query .n ≤ 8) ⌝ }
+    ensures { λ r. ⌜ Arriving (words (now (state .entry))) newest query thresholds r ⌝ }
+{
+    if newest < window::SLOTS {
+        return candidates::exceeds_in(state, newest, query, thresholds);
+    }
+    false
+}
+
+// Whether a frame reaches the query: the arriving message exceeds one of the thresholds, or one of the `departed` messages from slot `gone` on.
+fn is_reached(
+    state: &[u8],
+    gone: usize,
+    departed: usize,
+    above: bool,
+    query: Query,
+    thresholds: [u32; 8],
+) -> bool
+    requires { ⌜ (length (now state) ≡ stateLength) × (gone < slots) × (query .n ≤ 8) ⌝ }
+    ensures { λ r. ⌜ Reached (words (now (state .entry))) gone departed above query thresholds r ⌝ }
+{
+    if above {
+        return true;
+    }
+    candidates::reaches(state, gone, departed, query, thresholds)
+}
+
 // A query is updated where a frame reaches it: `departed` messages from slot `gone` on left, and one arrived in slot `newest` where that is one.
-pub fn update(state: &mut [u8], q: usize, gone: usize, departed: usize, first: usize, count: usize, newest: usize) -> bool
+pub fn update(
+    state: &mut [u8],
+    q: usize,
+    gone: usize,
+    departed: usize,
+    first: usize,
+    count: usize,
+    newest: usize,
+) -> bool
     requires { ⌜ (length (now state) ≡ stateLength) × (q < numbers) × (first < slots) × (count < slots) ⌝ }
     requires { ⌜ gone < slots ⌝ }
     ensures { λ r. ⌜ Updated (words (now (state .entry))) q gone departed first count newest r (words (now (state .exit))) ⌝ }
 {
     let query = load_query(state, q);
     let thresholds = load_thresholds(state, q);
-    let mut above = false;
-    if newest < window::SLOTS {
-        above = candidates::exceeds_in(state, newest, query, thresholds);
+    let above = newest_exceeds(state, newest, query, thresholds);
+    if !is_reached(state, gone, departed, above, query, thresholds) {
+        return false;
     }
-    if !above {
-        if !candidates::reaches(state, gone, departed, query, thresholds) {
-            return false;
-        }
-    }
+    let flags = memory::load9(state, RECORDS + RECORD * q + FLAGS);
     let source = Source {
-        flags: memory::load9(state, RECORDS + RECORD * q + FLAGS),
+        flags,
         newest,
         above,
         all: false,
@@ -257,21 +290,40 @@ pub fn clear(state: &mut [u8], q: usize)
     }
 }
 
-// A query is registered over the window.
-pub fn register(state: &mut [u8], q: usize, k: u32, n: usize, terms: [u32; 16], weights: [u32; 16], first: usize, count: usize)
-    requires { ⌜ (length (now state) ≡ stateLength) × (q < numbers) × (first < slots) × (count < slots) ⌝ }
-    requires { ⌜ (1 ≤ k) × (k ≤ 16) × (1 ≤ n) × (n ≤ 8) ⌝ }
+// A query is written: the length of its list, how many terms it has, and each with its weight.
+fn put_query(state: &mut [u8], q: usize, k: u32, n: usize, terms: [u32; 16], weights: [u32; 16])
+    requires { ⌜ (length (now state) ≡ stateLength) × (q < numbers) × (n ≤ 8) ⌝ }
     requires { ⌜ ((i : ℕ) → i < n → (getD terms i 0 < 1024) × (getD weights i 0 < 16)) ⌝ }
-    ensures { λ _. ⌜ Registered (words (now (state .entry))) q first count (record { k = k; terms = side-by-side n terms weights }) (words (now (state .exit))) ⌝ }
+    ensures { λ _. ⌜ PutQuery q (record { k = k; terms = side-by-side n terms weights }) (words (now (state .entry))) (words (now (state .exit))) ⌝ }
 {
     let at = RECORDS + RECORD * q;
     memory::put(state, at, k);
     memory::put(state, at + 1, n as u32);
     let mut i: usize = 0;
     while i < n {
-        memory::put(state, at + PAIRS + i, terms[i] * 16 + weights[i]);
+        let pair = terms[i] * 16 + weights[i];
+        memory::put(state, at + PAIRS + i, pair);
         i += 1;
     }
+}
+
+// A query is registered over the window.
+pub fn register(
+    state: &mut [u8],
+    q: usize,
+    k: u32,
+    n: usize,
+    terms: [u32; 16],
+    weights: [u32; 16],
+    first: usize,
+    count: usize,
+)
+    requires { ⌜ (length (now state) ≡ stateLength) × (q < numbers) × (first < slots) × (count < slots) ⌝ }
+    requires { ⌜ (1 ≤ k) × (k ≤ 16) × (1 ≤ n) × (n ≤ 8) ⌝ }
+    requires { ⌜ ((i : ℕ) → i < n → (getD terms i 0 < 1024) × (getD weights i 0 < 16)) ⌝ }
+    ensures { λ _. ⌜ Registered (words (now (state .entry))) q first count (record { k = k; terms = side-by-side n terms weights }) (words (now (state .exit))) ⌝ }
+{
+    put_query(state, q, k, n, terms, weights);
     let query = load_query(state, q);
     refill(state, q, first, count, query);
 }

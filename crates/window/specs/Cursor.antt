@@ -1,12 +1,12 @@
 -- What each function of the window ensures. Assumes nothing.
 use Prim.Native.Nat.{ℕ, suc, _+_, _-_, _%_, _≤_, _<_}
 use mathlib.Core.Path.{_≡_}
-use mathlib.Core.List.{List, _++_}
+use mathlib.Core.List.{List}
 use lib.ListN.{getD}
 use Rattle.paper.specs.Window.{Message}
 use Rattle.memory.specs.Keeps.{Keeps}
 use Rattle.window.specs.Layout.{slots, slotWords, slotAt, clockAt, oldestAt, countAt}
-use Rattle.window.specs.Slot.{slot, stored, ring, window, next, dropPast}
+use Rattle.window.specs.Slot.{slot, stored, window, dropPast}
 
 -- what is read of the header: itself where it is in range, and in range whatever memory holds
 pub record Loaded (w : List ℕ) (clock oldest count : ℕ) : Type 0 where
@@ -16,12 +16,10 @@ pub record Loaded (w : List ℕ) (clock oldest count : ℕ) : Type 0 where
   pub count-below : count < slots
   pub count-is : getD w countAt 0 < slots → count ≡ getD w countAt 0
 
--- a window whose oldest slots left: those are the first of it
+-- a window whose oldest slots left: it starts as many slots later as it is shorter
 pub record Moved (o n o′ n′ : ℕ) : Type 0 where
-  pub oldest-below : o′ < slots
   pub count-most : n′ ≤ n
-  pub parts : ring o n ≡ ring o (n - n′) ++ ring o′ n′
-  pub end-same : (o′ + n′) % slots ≡ (o + n) % slots
+  pub oldest-is : o′ ≡ (o + (n - n′)) % slots
 
 -- the window after past messages left
 pub record Advanced (w : List ℕ) (T o n clock clock′ o′ n′ : ℕ) : Type 0 where

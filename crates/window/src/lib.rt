@@ -2,15 +2,15 @@
 ghost use mathlib.Core.Path.{_≡_};
 ghost use Prim.Native.Nat.{ℕ, _+_, _*_, _%_, _<_, _≤_};
 ghost use lib.ListN.{length, getD};
-ghost use Rattle.paper.specs.Window.{past, Message};
+ghost use Rattle.paper.specs.Window.{past};
 ghost use Rattle.paper.specs.Write.{side-by-side};
 ghost use Rattle.paper.specs.Log.{stateLength};
 ghost use Rattle.memory.specs.Words.{words};
-ghost use Rattle.impact.specs.Cell.{Looked};
+ghost use Rattle.memory.specs.Keeps.{Stored};
+ghost use Rattle.impact.specs.Cell.{cellsOf, Looked};
 ghost use Rattle.window.specs.Layout.{slots};
 ghost use Rattle.window.specs.Slot.{slot, window, next, holdsSerial};
 ghost use Rattle.window.specs.Cursor.{Loaded, Advanced, Roomy, Written};
-
 use impact::Impact;
 
 // How long the state memory is, in bytes.
@@ -83,40 +83,30 @@ impl Cursor {
         requires { ⌜ length (now state) ≡ stateLength ⌝ }
         ensures { λ r. ⌜ Loaded (words (now (state .entry))) (r .clock) (r .oldest) (r .count) ⌝ }
     {
-        let clock = memory::get(state, 2);
         let oldest = memory::get(state, 3) as usize;
         let count = memory::get(state, 4) as usize;
         Cursor {
-            clock,
+            clock: memory::get(state, 2),
             oldest: oldest % SLOTS,
             count: count % SLOTS,
         }
     }
 
     // The clock moves on, and past messages go.
-    pub fn advanced(self, state: &[u8], life: u32, clock: u32) -> Cursor
+    pub fn advanced(mut self, state: &[u8], life: u32, clock: u32) -> Cursor
         requires { ⌜ (length (now state) ≡ stateLength) × (self .oldest < slots) ⌝ }
         ensures { λ r. ⌜ Advanced (words (now (state .entry))) life (self .oldest) (self .count) clock (r .clock) (r .oldest) (r .count) ⌝ }
     {
-        let mut oldest = self.oldest;
-        let mut count = self.count;
-        while 0 < count {
-            let time = time_in(state, oldest);
+        self.clock = clock;
+        while 0 < self.count {
+            let time = time_in(state, self.oldest);
             if !is_past(life, clock, time) {
-                return Cursor {
-                    clock,
-                    oldest,
-                    count,
-                };
+                break;
             }
-            oldest = following(oldest);
-            count -= 1;
+            self.oldest = following(self.oldest);
+            self.count -= 1;
         }
-        Cursor {
-            clock,
-            oldest,
-            count,
-        }
+        self
     }
 
     // Room for one more message: the oldest goes where `capacity` are there.
@@ -160,6 +150,7 @@ pub fn has_serial(state: &[u8], first: usize, count: usize, serial: u32) -> bool
 fn put_cells(state: &mut [u8], at: usize, m: usize, terms: [u32; 16], counts: [u32; 16])
     requires { ⌜ (length (now state) ≡ stateLength) × (at + m ≤ 6808) × (m ≤ 16) ⌝ }
     requires { ⌜ ((i : ℕ) → i < m → (getD terms i 0 < 1024) × (getD counts i 0 < 256)) ⌝ }
+    ensures { λ _. ⌜ Stored at m (cellsOf (side-by-side m terms counts)) (words (now (state .entry))) (words (now (state .exit))) ⌝ }
 {
     let squares = impact::squared(counts, m);
     let mut i: usize = 0;
@@ -174,7 +165,15 @@ fn put_cells(state: &mut [u8], at: usize, m: usize, terms: [u32; 16], counts: [u
 }
 
 // A message takes slot j.
-pub fn put_message(state: &mut [u8], j: usize, time: u32, serial: u32, m: usize, terms: [u32; 16], counts: [u32; 16])
+pub fn put_message(
+    state: &mut [u8],
+    j: usize,
+    time: u32,
+    serial: u32,
+    m: usize,
+    terms: [u32; 16],
+    counts: [u32; 16],
+)
     requires { ⌜ (length (now state) ≡ stateLength) × (j < slots) × (m ≤ 16) ⌝ }
     requires { ⌜ ((i : ℕ) → i < m → (getD terms i 0 < 1024) × (getD counts i 0 < 256)) ⌝ }
     ensures { λ _. ⌜ Written j (record { time = time; serial = serial; pairs = side-by-side m terms counts }) (words (now (state .entry))) (words (now (state .exit))) ⌝ }

@@ -1,0 +1,5 @@
+pub mod FlagLaws
+pub mod CellLaws
+pub mod WalkLaws
+pub mod KeptLaws
+pub mod MatchLaws

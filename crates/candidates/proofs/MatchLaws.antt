@@ -1,0 +1,132 @@
+-- Matching stored messages is matching paper's. Assumes nothing.
+use Prim.Native.Nat.{ℕ, zero, suc, _+_, _-_, _*_, _%_, _<_}
+use native.Mathlib.Nat.{not-suc-le-zero}
+use native.Mathlib.Omega.{arith}
+use mathlib.Core.Path.{_≡_, refl, sym, ap, ap₂, _∙_, subst}
+use mathlib.Core.Bool.{Bool, true, false, cond, _||_}
+use mathlib.Core.Logic.{inl, inr}
+use mathlib.Core.List.{List, [], _∷_, _++_, map, append-assoc, append-nil}
+use lib.Seq.{take-nil}
+use lib.Dec.{eqb, ltb}
+use borrow.Author.Tests.{ltb-true, lt-ltb, eqb-true, eqb-false}
+use Rattle.paper.specs.Frame.{Pair, Pairs, countWidth, mostPairs}
+use Rattle.paper.specs.Impact.{score}
+use Rattle.paper.specs.Order.{In}
+use Rattle.paper.specs.Rank.{Query, Line, Entry, entry, line, lines, ranking}
+use Rattle.paper.specs.Sort.{select, inserts}
+use Rattle.paper.specs.Sound.{Messages}
+use Rattle.paper.specs.Threshold.{exceeds, reached}
+use Rattle.paper.specs.Window.{Message}
+use Rattle.paper.proofs.RankLaws.{ranking-more}
+use Rattle.paper.proofs.SortLaws.{select-map}
+use Rattle.impact.specs.Cell.{RisingCells}
+use Rattle.impact.proofs.CellLaws.{lookup-cells, rising-cells}
+use Rattle.rank.specs.Listing.{grown}
+use Rattle.rank.proofs.PaperLaws.{lines-grown}
+use Rattle.window.specs.Layout.{slots}
+use Rattle.window.specs.Slot.{Slot, slot, stored, next, ring, window}
+use Rattle.candidates.specs.Match.{scoreCells, exceedsCells, reachedSlots, scored, AllRising}
+use Rattle.candidates.specs.Source.{inRing}
+use Rattle.candidates.specs.Post.{grows, RisingRing}
+
+-- ---- a stored message
+
+pub score-stored : (qs : List Pair) (m : Message) → Pairs countWidth mostPairs (m .pairs) → scoreCells qs (stored m .cells) ≡ score qs (m .pairs)
+unfolding scoreCells score stored
+score-stored [] m v = refl
+score-stored (q ∷ qs) m v = ap₂ (λ (x y : ℕ). q .amount * x + y) (lookup-cells (m .pairs) v (q .term)) (score-stored qs m v)
+
+pub exceeds-stored : (qs : List Pair) (hs : List ℕ) (m : Message) → Pairs countWidth mostPairs (m .pairs)
+    → exceedsCells qs hs (stored m .cells) ≡ exceeds qs hs (m .pairs)
+unfolding exceedsCells exceeds stored
+exceeds-stored [] hs m v = refl
+exceeds-stored (q ∷ qs) [] m v = refl
+exceeds-stored (q ∷ qs) (h ∷ hs) m v = ap₂ (λ (x : ℕ) (b : Bool). ltb h x || b) (lookup-cells (m .pairs) v (q .term)) (exceeds-stored qs hs m v)
+
+-- ---- a window of stored messages
+
+pub all-rising : (ms : List Message) → Messages ms → AllRising (map stored ms)
+unfolding stored
+all-rising [] v = tt
+all-rising (m ∷ ms) v = (rising-cells (m .pairs) (v .1), all-rising ms (v .2))
+
+pub reached-stored : (qs : List Pair) (hs : List ℕ) (ms : List Message) → Messages ms → reachedSlots qs hs (map stored ms) ≡ reached qs hs ms
+unfolding reachedSlots reached
+reached-stored qs hs [] v = refl
+reached-stored qs hs (m ∷ ms) v = ap₂ (λ (a b : Bool). a || b) (exceeds-stored qs hs m (v .1)) (reached-stored qs hs ms (v .2))
+
+-- messages put into a list one after the other are ranked: from the ranking of earlier ones on, and from nothing
+grows-on : (q : Query) (xs ms : List Message) → grows (q .k) (lines (ranking q xs)) (map (λ m. line (entry (score (q .terms)) m)) ms) ≡ lines (ranking q (xs ++ ms))
+unfolding grows
+grows-on q xs [] = ap (λ (l : List Message). lines (ranking q l)) (sym (append-nil xs))
+grows-on q xs (m ∷ ms) =
+    let one : grown (q .k) (line (entry (score (q .terms)) m)) (lines (ranking q xs)) ≡ lines (ranking q (xs ++ (m ∷ []))) =
+    sym (ap lines (ranking-more q xs m) ∙ lines-grown (q .k) (entry (score (q .terms)) m) (ranking q xs)) in
+    ap (λ (l : List Line). grows (q .k) l (map (λ m. line (entry (score (q .terms)) m)) ms)) one
+    ∙ grows-on q (xs ++ (m ∷ [])) ms
+    ∙ ap (λ (l : List Message). lines (ranking q l)) (append-assoc xs (m ∷ []) ms)
+
+pub grows-ranking : (q : Query) (ms : List Message) → grows (q .k) [] (map (λ m. line (entry (score (q .terms)) m)) ms) ≡ lines (ranking q ms)
+unfolding ranking select inserts
+grows-ranking q ms =
+    let none : ranking q [] ≡ [] = take-nil (q .k) in
+    ap (λ (l : List Entry). grows (q .k) (lines l) (map (λ m. line (entry (score (q .terms)) m)) ms)) (sym none) ∙ grows-on q [] ms
+
+lines-stored : (qs : List Pair) (ms : List Message) → Messages ms → map (scored qs) (map stored ms) ≡ map (λ m. line (entry (score qs) m)) ms
+unfolding stored
+lines-stored qs [] v = refl
+lines-stored qs (m ∷ ms) v =
+    ap₂ (λ (c : ℕ) (l : List Line). record { serial = m .serial; score = c } ∷ l) (score-stored qs m (v .1)) (lines-stored qs ms (v .2))
+
+pub ranking-stored : (q : Query) (ms : List Message) → Messages ms → grows (q .k) [] (map (scored (q .terms)) (map stored ms)) ≡ lines (ranking q ms)
+ranking-stored q ms v = ap (grows (q .k) []) (lines-stored (q .terms) ms v) ∙ grows-ranking q ms
+
+-- ---- the slots of the window
+
+-- how far slot j is from slot o
+abbrev away : ℕ → ℕ → ℕ
+away o j = (j + slots - o) % slots
+
+pub in-ring : (o n j : ℕ) → o < slots → In j (ring o n) → (j < slots) × (inRing o n j ≡ true)
+unfolding ring inRing
+in-ring o zero j h m = absurd m
+in-ring o (suc n) j h (inl e) = (omega arith, lt-ltb (away o j) (suc n) (omega arith))
+in-ring o (suc n) j h (inr m) =
+    let ih = in-ring (next o) n j (omega arith) m in
+    let l = ltb-true (away (next o) j) n (ih .1) in
+    (ih .0, lt-ltb (away o j) (suc n) (omega arith))
+
+pub ring-in : (o n j : ℕ) → o < slots → j < slots → inRing o n j ≡ true → In j (ring o n)
+unfolding ring inRing
+ring-in o zero j h k e = absurd (not-suc-le-zero (ltb-true (away o j) 0 e))
+ring-in o (suc n) j h k e = go (eqb j o) refl (ring-in (next o) n j (omega arith) k)
+  where
+    go : (t : Bool) → eqb j o ≡ t → (inRing (next o) n j ≡ true → In j (ring (next o) n)) → In j (ring o (suc n))
+    go true q ih = inl (eqb-true j o q)
+    go false q ih =
+        let l = ltb-true (away o j) (suc n) e in
+        let ne = eqb-false j o q in
+        inr (ih (lt-ltb (away (next o) j) n (omega arith)))
+
+rising-in : (w l : List ℕ) (j : ℕ) → AllRising (map (slot w) l) → In j l → RisingCells (slot w j .cells)
+rising-in w [] j r m = absurd m
+rising-in w (x ∷ l) j r (inl e) = subst (λ (i : ℕ). RisingCells (slot w i .cells)) (sym e) (r .0)
+rising-in w (x ∷ l) j r (inr m) = rising-in w l j (r .1) m
+
+pub rising-ring : (w : List ℕ) (o n : ℕ) → o < slots → AllRising (window w o n) → RisingRing w o n
+rising-ring w o n h r j k e = rising-in w (ring o n) j r (ring-in o n j h k e)
+
+-- ---- the slots that a test takes
+
+-- two tests that agree on a list select the same of it
+pub select-agree : {A : Type 0} (s t : A → Bool) (l : List A) → ((x : A) → In x l → s x ≡ t x) → select s l ≡ select t l
+unfolding select
+select-agree s t [] h = refl
+select-agree {A} s t (x ∷ xs) h = ap₂ (λ (b : Bool) (r : List A). cond b (x ∷ r) r) (h x (inl refl)) (select-agree s t xs (λ y m. h y (inr m)))
+
+pub taken-slots : (w : List ℕ) (o n : ℕ) (qs : List Pair) (hs : List ℕ) (test : ℕ → Bool)
+    → ((j : ℕ) → In j (ring o n) → test j ≡ exceedsCells qs hs (slot w j .cells))
+    → map (slot w) (select test (ring o n)) ≡ select (λ x. exceedsCells qs hs (x .cells)) (window w o n)
+taken-slots w o n qs hs test agrees =
+    ap (map (slot w)) (select-agree test (λ j. exceedsCells qs hs (slot w j .cells)) (ring o n) agrees)
+    ∙ sym (select-map (slot w) (λ (x : Slot). exceedsCells qs hs (x .cells)) (ring o n))

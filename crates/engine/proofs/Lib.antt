@@ -1,0 +1,16 @@
+pub mod MarkLaws
+pub mod RepresentsLaws
+pub mod SameLaws
+pub mod UnmarkedLaws
+pub mod StartLaws
+pub mod HeaderLaws
+pub mod ListLaws
+pub mod PassedLaws
+pub mod StepLaws
+pub mod PrepareLaws
+pub mod KindLaws
+pub mod RegisterLaws
+pub mod NumberLaws
+pub mod PostLaws
+pub mod ReadLaws
+pub mod Demand3

@@ -1,0 +1,95 @@
+-- A list reading: what it answers where the memory holds a log. Assumes nothing.
+use Prim.Native.Nat.{ℕ, _≤_, _<_}
+use native.Mathlib.Omega.{arith}
+use mathlib.Core.Path.{_≡_, refl, sym, ap, _∙_}
+use mathlib.Core.Bool.{Bool, true, false, cond, not, true≢false}
+use mathlib.Core.List.{List, []}
+use mathlib.Core.Option.{Option, none, some}
+use lib.ListN.{length, getD, List·getD-eq-default}
+use lib.Dec.{eqb}
+use borrow.Author.Tests.{eq-eqb}
+use Rattle.paper.specs.Rank.{Query, ranking, lines}
+use Rattle.paper.specs.Log.{Log, stateLength, numbers, queryAt, inUse, inForceNow, judgeList}
+use Rattle.paper.specs.Log as Log
+use Rattle.memory.specs.Words.{words}
+use Rattle.rank.specs.declared.Ranked.{Ranked}
+use Rattle.rank.specs.Listing.{linesOf, Tidy, Empty}
+use Rattle.window.specs.Layout.{recordAt}
+use Rattle.query.specs.Record.{list, HoldsAt, Holds}
+use Rattle.query.specs.Post.{LoadedList}
+use Rattle.query.proofs.RecordLaws.{in-use-is}
+use Rattle.engine.specs.Represents.{Represents, oldestOf, countOf}
+use Rattle.engine.specs.Post.{ListPost}
+use Rattle.engine.proofs.RepresentsLaws.{query-terms}
+
+module _ (s : List ℕ) (n : ℕ) where
+  pub list-not-lent : {l : Ranked} → (length s ≡ stateLength → ⊥) → Empty l → ListPost s n (record { number = 12; list = l })
+  list-not-lent h e = record {
+    not-lent = λ _. refl;
+    no-number = λ long. absurd (h long);
+    most = let z = e .count in omega arith;
+    refused = λ _. (e .list, e .tidy);
+    right = λ log r long. absurd (h long);
+  }
+
+  module _ (long : length s ≡ stateLength) where
+    judged : (log : Log) {b : Bool} → inUse (queryAt log n) ≡ b → judgeList 0 log (length s) 0 n ≡ cond b 0 10
+    unfolding judgeList
+    judged log e = rw (eq-eqb (length s) stateLength long, e) refl
+
+    listed-none : (log : Log) → inUse (queryAt log n) ≡ false → [] ≡ Log.listed 0 log (length s) 0 n
+    unfolding Log.listed
+    listed-none log e = rw (judged log e) refl
+
+    listed-some : (log : Log) (q : Query) → queryAt log n ≡ some q → lines (ranking q (inForceNow log)) ≡ Log.listed 0 log (length s) 0 n
+    unfolding Log.listed
+    listed-some log q e = rw (judged log (ap inUse e), e) refl
+
+    -- the log has no such query
+    pub list-unused : {l : Ranked} → ((log : Log) → Represents log (words s) → inUse (queryAt log n) ≡ false) → Empty l → ListPost s n (record { number = 10; list = l })
+    list-unused absent e = record {
+      not-lent = λ h. absurd (h long);
+      no-number = λ _ _. refl;
+      most = let z = e .count in omega arith;
+      refused = λ _. (e .list, e .tidy);
+      right = λ log r _. (sym (judged log (absent log r)), e .list ∙ listed-none log (absent log r), e .tidy);
+    }
+
+    -- numbers above 31
+    pub above : numbers ≤ n → (log : Log) → Represents log (words s) → inUse (queryAt log n) ≡ false
+    above h log r = let k = r .sound .numbered in ap inUse (List·getD-eq-default (log .queries) none {n = n} (omega arith))
+
+    -- the record says which are in use
+    module _ (h : n < numbers) {b : Bool} (test : b ≡ not (eqb (getD (words s) (recordAt n) 0) 0)) where
+      in-use : (log : Log) → Represents log (words s) → inUse (queryAt log n) ≡ b
+      in-use log r =
+          sym (in-use-is (words s) n (oldestOf (words s)) (countOf (words s)) (inForceNow log) (queryAt log n) (λ q e. query-terms (log .queries) n q (r .sound .queries) e) (r .records n h))
+          ∙ sym test
+
+      pub unused : b ≡ false → (log : Log) → Represents log (words s) → inUse (queryAt log n) ≡ false
+      unused e log r = in-use log r ∙ e
+
+      -- the list of the record is that of the log
+      held : {l : Ranked} (log : Log) (q : Query) → LoadedList (words s) n l → Holds (words s) n (oldestOf (words s)) (countOf (words s)) (inForceNow log) q
+          → (linesOf l ≡ lines (ranking q (inForceNow log))) × Tidy l
+      unfolding list
+      held log q p k =
+          let c = p .count-is (k .listed-most) in (
+            rw (c, p .serials, p .scores) (k .settled .ranked),
+            record { serials = rw (c, p .serials) (k .no-serial); scores = rw (c, p .scores) (k .no-score) },
+          )
+
+      pub list-right : {l : Ranked} → b ≡ true → LoadedList (words s) n l → ListPost s n (record { number = 0; list = l })
+      list-right {l} e p = record {
+        not-lent = λ h. absurd (h long);
+        no-number = λ _ k. absurd (omega arith);
+        most = p .count-most;
+        refused = λ k. absurd (k refl);
+        right = λ log r _. go log (queryAt log n) refl (in-use log r ∙ e) (r .records n h);
+      }
+        where
+          go : (log : Log) (x : Option Query) → queryAt log n ≡ x → inUse (queryAt log n) ≡ true
+              → HoldsAt (words s) n (oldestOf (words s)) (countOf (words s)) (inForceNow log) x
+              → (0 ≡ judgeList 0 log (length s) 0 n) × (linesOf l ≡ Log.listed 0 log (length s) 0 n) × Tidy l
+          go log none is u k = absurd (true≢false (sym u ∙ ap inUse is))
+          go log (some q) is u k = let t = held log q p k in (sym (judged log u), t .0 ∙ listed-some log q is, t .1)

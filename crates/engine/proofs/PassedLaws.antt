@@ -1,0 +1,147 @@
+-- The pass over the records: what it starts with, and what one record's turn makes of it. Assumes nothing.
+use Prim.Native.Nat.{ℕ, _+_, _<_, _^_}
+use native.Mathlib.Nat.{add-zero, not-suc-le-zero}
+use native.Mathlib.Omega.{arith}
+use mathlib.Core.Path.{_≡_, refl, sym, ap, _∙_}
+use mathlib.Core.Logic.{inl, inr}
+use mathlib.Core.Bool.{Bool, true, false, cond, not, true≢false, false≢true}
+use mathlib.Core.List.{List, [], _∷_, _++_, map}
+use mathlib.Core.Option.{Option, none, some}
+use lib.ListN.{length, getD}
+use lib.Dec.{eqb, ltb}
+use borrow.Author.Count.{below-more}
+use borrow.Author.Tests.{ltb-true}
+use Rattle.paper.specs.Rank.{Query}
+use Rattle.paper.specs.Window.{Message}
+use Rattle.paper.specs.Log.{numbers}
+use Rattle.paper.specs.Sound.{Terms, Queries}
+use Rattle.paper.specs.Threshold.{reached}
+use Rattle.paper.specs.Demand3.{bitmap}
+use Rattle.memory.specs.Keeps.{Keeps}
+use Rattle.memory.proofs.KeepsLaws.{keeps-refl, keeps-trans, keeps-wider}
+use Rattle.window.specs.Layout.{slots, recordAt}
+use Rattle.window.specs.Slot.{Slot, slot}
+use Rattle.window.proofs.SlotLaws.{slot-kept, window-kept}
+use Rattle.query.specs.Record.{HoldsAt}
+use Rattle.query.specs.Post.{Change, arriving, Updated}
+use Rattle.query.proofs.RecordLaws.{thresholds-same, holds-at-same, in-use-is}
+use Rattle.engine.specs.Inner.{SameRecord, reachedIn, Passed}
+use Rattle.engine.proofs.MarkLaws.{bitmap-next, marks-below}
+use Rattle.engine.proofs.RepresentsLaws.{query-terms}
+
+-- ---- what the records don't change
+
+module _ {e : ℕ} {w v : List ℕ} (kept : Keeps (recordAt 0) e w v) where
+  arriving-kept : (newest : ℕ) → map (slot v) (arriving newest) ≡ map (slot w) (arriving newest)
+  arriving-kept newest = go (ltb newest slots) refl
+    where
+      go : (b : Bool) → ltb newest slots ≡ b → map (slot v) (cond b (newest ∷ []) []) ≡ map (slot w) (cond b (newest ∷ []) [])
+      go true t = ap (λ (x : Slot). x ∷ []) (let l = ltb-true newest slots t in slot-kept kept newest (inl (omega arith)))
+      go false t = refl
+
+  change-kept : {o d o′ s newest : ℕ} {ga sa ca : List Message} → Change w o d o′ s newest ga sa ca → Change v o d o′ s newest ga sa ca
+  change-kept {o} {d} {o′} {s} {newest} c = record {
+    first-below = c .first-below;
+    then-below = c .then-below;
+    small = c .small;
+    before = c .before;
+    after = c .after;
+    gone = window-kept kept (inl (omega arith)) o d (c .first-below) ∙ c .gone;
+    stay = window-kept kept (inl (omega arith)) o′ s (c .then-below) ∙ c .stay;
+    come = arriving-kept newest ∙ c .come;
+    apart = c .apart;
+    valid = c .valid;
+  }
+
+-- ---- the pass
+
+pub passed-none : (w : List ℕ) {o d o′ count newest : ℕ} → Passed 0 w o d o′ count newest 0 w
+unfolding bitmap
+passed-none w = record {
+  keeps = keeps-refl (recordAt 0) (recordAt 0) w;
+  small = omega arith;
+  right = λ s ga sa ca qs change size valid holds. (λ q l. absurd (not-suc-le-zero l), refl, λ q l. absurd (not-suc-le-zero l));
+}
+
+-- what one turn has to say of its record: `r` is whether the query is reached, and what is kept of it is right after the change
+abbrev Turned : List ℕ → ℕ → ℕ → ℕ → ℕ → ℕ → ℕ → Bool → List ℕ → Type 0
+Turned v q o d o′ count newest r v′ =
+    (s : ℕ) (ga sa ca : List Message) (x : Option Query) → ((y : Query) → x ≡ some y → Terms y) → Change v o d o′ s newest ga sa ca
+    → count ≡ s + length ca → HoldsAt v q o (d + s) (ga ++ sa) x → (r ≡ reachedIn v q x (ga ++ ca)) × HoldsAt v′ q o′ count (sa ++ ca) x
+
+module _ (q : ℕ) (w v : List ℕ) {o d o′ count newest marks : ℕ} (below : q < numbers) (passed : Passed q w o d o′ count newest marks v) where
+  reached-same : (x : Option Query) (ms : List Message) → ((y : Query) → x ≡ some y → Terms y) → reachedIn v q x ms ≡ reachedIn w q x ms
+  reached-same none ms t = refl
+  reached-same (some y) ms t =
+      ap (λ (hs : List ℕ). reached (y .terms) hs ms)
+      (thresholds-same (passed .keeps) q (inr (omega arith)) (length (y .terms)) (t y refl .terms .at-most))
+
+  -- one turn writes its own record only, and nothing where the record isn't reached
+  module _ (v′ : List ℕ) (r : Bool) (here : Keeps (recordAt q) (recordAt (q + 1)) v v′) (same : r ≡ false → v′ ≡ v) (one : Turned v q o d o′ count newest r v′) where
+    module _ (s : ℕ) (ga sa ca : List Message) (qs : List (Option Query)) (change : Change w o d o′ s newest ga sa ca) (size : count ≡ s + length ca)
+        (valid : Queries qs) (holds : (p : ℕ) → p < numbers → HoldsAt w p o (d + s) (ga ++ sa) (getD qs p none)) where
+      terms : (p : ℕ) (y : Query) → getD qs p none ≡ some y → Terms y
+      terms p y e = query-terms qs p y valid e
+
+      -- the record stands as it did before the pass
+      held : HoldsAt v q o (d + s) (ga ++ sa) (getD qs q none)
+      held =
+          holds-at-same (passed .keeps) q (inr (omega arith)) o (d + s) (change .first-below) (λ j l _. slot-kept (passed .keeps) j (inl (omega arith)))
+          (ga ++ sa) (getD qs q none) (terms q) (holds q below)
+
+      now : (r ≡ reachedIn w q (getD qs q none) (ga ++ ca)) × HoldsAt v′ q o′ count (sa ++ ca) (getD qs q none)
+      now =
+          let t = one s ga sa ca (getD qs q none) (terms q) (change-kept (passed .keeps) change) size held in
+          (t .0 ∙ reached-same (getD qs q none) (ga ++ ca) (terms q), t .1)
+
+      -- the records before it stay
+      stay : (p : ℕ) → p < q → HoldsAt v′ p o′ count (sa ++ ca) (getD qs p none)
+      stay p l =
+          holds-at-same here p (inl (omega arith)) o′ count (change .then-below) (λ j k _. slot-kept here j (inl (omega arith)))
+          (sa ++ ca) (getD qs p none) (terms p) (passed .right s ga sa ca qs change size valid holds .0 p l)
+
+      untouched : (p : ℕ) → p < q → reachedIn w p (getD qs p none) (ga ++ ca) ≡ false → SameRecord w v′ p
+      untouched p l u i k = here .below (recordAt p + i) (omega arith) ∙ passed .right s ga sa ca qs change size valid holds .2 p l u i k
+
+      unreached : reachedIn w q (getD qs q none) (ga ++ ca) ≡ false → SameRecord w v′ q
+      unreached u i k = ap (λ (x : List ℕ). getD x (recordAt q + i) 0) (same (now .0 ∙ u)) ∙ passed .keeps .above (recordAt q + i) (omega arith)
+
+      all : ((p : ℕ) → p < q + 1 → HoldsAt v′ p o′ count (sa ++ ca) (getD qs p none))
+          × (marks + cond r (2 ^ q) 0 ≡ bitmap (λ p. reachedIn w p (getD qs p none) (ga ++ ca)) (q + 1))
+          × ((p : ℕ) → p < q + 1 → reachedIn w p (getD qs p none) (ga ++ ca) ≡ false → SameRecord w v′ p)
+      all = (
+        below-more (λ p. HoldsAt v′ p o′ count (sa ++ ca) (getD qs p none)) q stay (now .1),
+        bitmap-next (λ p. reachedIn w p (getD qs p none) (ga ++ ca)) q (now .0) (passed .right s ga sa ca qs change size valid holds .1),
+        below-more (λ p. reachedIn w p (getD qs p none) (ga ++ ca) ≡ false → SameRecord w v′ p) q untouched unreached,
+      )
+
+    turn : Passed (q + 1) w o d o′ count newest (marks + cond r (2 ^ q) 0) v′
+    turn = record {
+      keeps = keeps-trans (keeps-wider (omega arith) (omega arith) (passed .keeps)) (keeps-wider (omega arith) (omega arith) here);
+      small = marks-below q r (passed .small);
+      right = all;
+    }
+
+  module _ {b : Bool} (test : b ≡ not (eqb (getD v (recordAt q) 0) 0)) where
+    -- no query is registered at the number
+    pub turn-unused : b ≡ false → {v′ : List ℕ} {marks′ : ℕ} → v′ ≡ v → marks′ ≡ marks → Passed (q + 1) w o d o′ count newest marks′ v′
+    turn-unused e same more = rw (same, more, ← add-zero marks) (turn v false (keeps-refl (recordAt q) (recordAt (q + 1)) v) (λ _. refl) one)
+      where
+        one : Turned v q o d o′ count newest false v
+        one s ga sa ca none t c size h = (refl, h)
+        one s ga sa ca (some y) t c size h = absurd (true≢false (sym (in-use-is v q o (d + s) (ga ++ sa) (some y) t h) ∙ sym test ∙ e))
+
+    -- the query that is registered is updated
+    module _ (e : b ≡ true) {u : List ℕ} {r : Bool} (updated : Updated v q o d o′ count newest r u) where
+      turn-used : Passed (q + 1) w o d o′ count newest (marks + cond r (2 ^ q) 0) u
+      turn-used = turn u r (keeps-wider (omega arith) (omega arith) (updated .keeps)) (updated .untouched) one
+        where
+          one : Turned v q o d o′ count newest r u
+          one s ga sa ca none t c size h = absurd (false≢true (sym (in-use-is v q o (d + s) (ga ++ sa) none t h) ∙ sym test ∙ e))
+          one s ga sa ca (some y) t c size h = updated .right s ga sa ca y c size (t y refl) h
+
+      pub turn-unreached : r ≡ false → {v′ : List ℕ} {marks′ : ℕ} → v′ ≡ u → marks′ ≡ marks → Passed (q + 1) w o d o′ count newest marks′ v′
+      turn-unreached k same more = rw (same, more) (rw (k, add-zero) at turn-used)
+
+      pub turn-reached : r ≡ true → {v′ : List ℕ} {marks′ : ℕ} → v′ ≡ u → marks′ ≡ marks + 2 ^ q → Passed (q + 1) w o d o′ count newest marks′ v′
+      turn-reached k same more = rw (same, more) (rw k at turn-used)

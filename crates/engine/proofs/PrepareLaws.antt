@@ -1,0 +1,98 @@
+-- Header and arriving message written: what the records and the window before it see of that. Assumes nothing.
+use Prim.Native.Nat.{ℕ, suc, _+_, _-_, _%_, _≤_, _<_}
+use native.Mathlib.Nat.{add-zero}
+use native.Mathlib.Numerals.{add-one}
+use native.Mathlib.Omega.{arith}
+use mathlib.Core.Path.{_≡_, refl, sym, ap, ap₂, _∙_, subst}
+use mathlib.Core.Bool.{Bool, true, false, cond, false≢true}
+use mathlib.Core.Logic.{_⊎_, inl, inr, ⊎-elim}
+use mathlib.Core.List.{List, [], _∷_, _++_, map, append-nil}
+use lib.ListN.{length, getD}
+use lib.Dec.{ltb}
+use borrow.Author.Tests.{lt-ltb, le-ltb, ltb-true, ltb-false}
+use Rattle.paper.specs.Frame.{Frame, Pair}
+use Rattle.paper.specs.Frame.Frame.{message, tick}
+use Rattle.paper.specs.Window.{Message}
+use Rattle.memory.specs.Keeps.{Keeps}
+use Rattle.window.specs.Layout.{slots, slotAt, slotWords, recordAt, recordWords}
+use Rattle.window.specs.Slot.{Slot, slot, stored, ring, window}
+use Rattle.window.specs.Cursor.{Moved, Written}
+use Rattle.window.proofs.RingLaws.{ring-last, moved-below, moved-end}
+use Rattle.window.proofs.SlotLaws.{slot-kept}
+use Rattle.candidates.specs.Source.{inRing}
+use Rattle.query.specs.Post.{arriving}
+use Rattle.engine.specs.Inner.{PutCursor}
+use Rattle.engine.proofs.SameLaws.{window-same}
+use Rattle.engine.proofs.StepLaws.{Prepared, outside}
+
+module _ (w : List ℕ) (o n o′ n′ : ℕ) (low : o < slots) (few : n < slots) (moved : Moved o n o′ n′) where
+  -- both parts of the window before are the same where its slots are
+  module _ (w′ : List ℕ) (same : (j : ℕ) → j < slots → inRing o n j ≡ true → slot w′ j ≡ slot w j) where
+    gone-same : window w′ o (n - n′) ≡ window w o (n - n′)
+    gone-same = window-same w w′ o n 0 (n - n′) o same low (omega arith) (omega arith) (omega arith)
+
+    left-same : window w′ o′ n′ ≡ window w o′ n′
+    left-same = let c = moved .count-most in window-same w w′ o n (n - n′) n′ o′ same low (omega arith) (omega arith) (moved .oldest-is)
+
+  -- no message arrives
+  pub ticked : (t : ℕ) (w′ : List ℕ) → PutCursor t o′ n′ w w′ → Prepared (tick t) w o n o′ n′ slots w′
+  ticked t w′ p =
+      let same : (j : ℕ) → j < slots → inRing o n j ≡ true → slot w′ j ≡ slot w j = λ j h e. slot-kept (p .keeps) j (inr (omega arith)) in
+      record {
+        long = p .keeps .long;
+        capacity = p .keeps .below 0 (omega arith);
+        life = p .keeps .below 1 (omega arith);
+        clock = p .clock-is;
+        oldest = p .oldest-is;
+        count = p .count-is ∙ sym (add-zero n′);
+        small = let c = moved .count-most in omega arith;
+        records = λ q h i l. p .keeps .above (recordAt q + i) (omega arith);
+        slots-same = same;
+        gone-same = gone-same w′ same;
+        left-same = left-same w′ same;
+        come = refl;
+        after = ap (ring o′) (add-zero n′) ∙ sym (append-nil (ring o′ n′));
+        apart = λ h. absurd (omega arith);
+      }
+
+  -- a slot of the window isn't the newest
+  not-newest : (j : ℕ) → inRing o n j ≡ true → j ≡ (o′ + n′) % slots → ⊥
+  not-newest j e h =
+      false≢true (sym (outside o n low few) ∙ ap (inRing o n) (sym (h ∙ moved-end low moved)) ∙ e)
+
+  beside : (j k : ℕ) → (j ≡ k → ⊥) → (slotAt j + slotWords ≤ slotAt k) ⊎ (slotAt k + slotWords ≤ slotAt j)
+  beside j k ne = go (ltb j k) refl
+    where
+      go : (b : Bool) → ltb j k ≡ b → (slotAt j + slotWords ≤ slotAt k) ⊎ (slotAt k + slotWords ≤ slotAt j)
+      go true e = let h = ltb-true j k e in inl (omega arith)
+      go false e = let h = ltb-false j k e in inr (omega arith)
+
+  one : (k : ℕ) → k < slots → arriving k ≡ k ∷ []
+  one k h = ap (λ (b : Bool). cond {A = List ℕ} b (k ∷ []) []) (lt-ltb k slots h)
+
+  -- a message arrives in the slot after the window
+  pub joined : (t s : ℕ) (ps : List Pair) (w₁ w₂ : List ℕ) → n′ < 256
+      → Written ((o′ + n′) % slots) (record { time = t; serial = s; pairs = ps }) w w₁ → PutCursor t o′ (n′ + 1) w₁ w₂
+      → Prepared (message t s ps) w o n o′ n′ ((o′ + n′) % slots) w₂
+  joined t s ps w₁ w₂ room a p =
+      let k = (o′ + n′) % slots in
+      let small : k < slots = omega arith in
+      let header : (j : ℕ) → slot w₂ j ≡ slot w₁ j = λ j. slot-kept (p .keeps) j (inr (omega arith)) in
+      let same : (j : ℕ) → j < slots → inRing o n j ≡ true → slot w₂ j ≡ slot w j =
+      λ j h e. header j ∙ slot-kept (a .keeps) j (beside j k (not-newest j e)) in
+      record {
+        long = p .keeps .long ∙ a .keeps .long;
+        capacity = p .keeps .below 0 (omega arith) ∙ a .keeps .below 0 (omega arith);
+        life = p .keeps .below 1 (omega arith) ∙ a .keeps .below 1 (omega arith);
+        clock = p .clock-is;
+        oldest = p .oldest-is;
+        count = p .count-is;
+        small = omega arith;
+        records = λ q h i l. p .keeps .above (recordAt q + i) (omega arith) ∙ a .keeps .above (recordAt q + i) (omega arith);
+        slots-same = same;
+        gone-same = gone-same w₂ same;
+        left-same = left-same w₂ same;
+        come = ap (map (slot w₂)) (one k small) ∙ ap (λ (x : Slot). x ∷ []) (header k ∙ a .holds);
+        after = ap (ring o′) (add-one n′) ∙ ring-last o′ n′ (moved-below low moved) ∙ ap (λ (js : List ℕ). ring o′ n′ ++ js) (sym (one k small));
+        apart = λ h. ap (inRing o n) (moved-end low moved) ∙ outside o n low few;
+      }

@@ -1,0 +1,5 @@
+pub mod PairLaws
+pub mod ReadLaws
+pub mod LaidLaws
+pub mod WriteLaws
+pub mod RoundTrip

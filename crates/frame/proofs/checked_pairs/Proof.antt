@@ -1,0 +1,49 @@
+-- `checked_pairs` meets its contract. Assumes nothing.
+use mathlib.Core.Path.{_≡_}
+use Prim.Native.Nat.{_+_, _*_}
+use native.Mathlib.Omega.{arith}
+use lib.ListN.{length}
+use Rattle.paper.specs.Frame.{bytesFor}
+use Rattle.frame.proofs.ReadLaws.{fit-length, checked-misfit, checked-taken}
+use Rattle.frame.proofs.checked_pairs.Statement.{statement}
+use Rattle.frame.proofs.checked_pairs.Tie as tie
+
+add-misfit : tie.Need-add-misfit
+add-misfit c = omega arith
+
+mul-misfit : tie.Need-mul-misfit
+mul-misfit c = omega arith
+
+add-misfit-2 : tie.Need-add-misfit-2
+add-misfit-2 c = omega arith
+
+misfit-requires : tie.Need-misfit-requires
+misfit-requires c κs = omega arith
+
+returns : tie.Need-returns
+returns c =
+    let a = c .before .before .before .args in
+    checked-misfit (a .bytes .now) (a .head) (a .width) (a .m) _ (c .before .misfit .ensures) (λ z. omega arith)
+
+take-pairs-requires : tie.Need-take-pairs-requires
+take-pairs-requires c κs =
+    let a = c .before .before .before .args in
+    let e : length (a .bytes .now) ≡ bytesFor (a .head + a .m * (10 + a .width)) = fit-length (a .bytes .now) (a .head + a .m * (10 + a .width)) (omega arith) in
+    omega arith
+
+returns-2 : tie.Need-returns-2
+returns-2 c =
+    let a = c .before .before .before .before .args in
+    checked-taken (a .bytes .now) (a .head) (a .width) (a .m) _ (omega arith) (c .take-pairs .ensures)
+
+pub checked-pairs-spec : {M : Type 1} → statement M
+checked-pairs-spec =
+    tie.close
+    (tie.spec
+    add-misfit
+    mul-misfit
+    add-misfit-2
+    misfit-requires
+    returns
+    take-pairs-requires
+    returns-2)

@@ -1,0 +1,124 @@
+-- `judge_pairs` meets its contract. Assumes nothing.
+use Prim.Native.Nat.{ℕ, _-_, _^_, _≤_}
+use native.Mathlib.Omega.{arith}
+use native.Mathlib.Nat.{sub-zero}
+use mathlib.Core.Bool.{Bool, true}
+use mathlib.Core.Path.{_≡_, sym, ap, _∙_}
+use lib.ListN.{length, drop, getD}
+use borrow.Author.Tests.{not-true, not-false}
+use Rattle.wire.proofs.BitLaws.{one-shl}
+use Rattle.frame.specs.Read.{pairsNumber, judgeNext}
+use Rattle.frame.proofs.WriteLaws.{enough-true}
+use Rattle.paper.specs.Write.{side-by-side}
+use Rattle.frame.specs.Write.{soundPair, pairsVerdict}
+use Rattle.frame.proofs.PairLaws.{judgedFrom, judged-all, fitting, within-all, beside-turn, beside-none}
+use Rattle.frame.proofs.judge_pairs.Statement.{statement}
+use Rattle.frame.proofs.judge_pairs.Tie as tie
+
+abbrev Inv-loop : tie.InvT-loop
+Inv-loop width most pairs terms amounts limit number₀ floor₀ i₀ number floor i =
+    (i ≤ pairs) × (pairs ≤ length terms) × (pairs ≤ length amounts) × (judgedFrom (fitting width) number floor (side-by-side (pairs - i) (drop i terms) (drop i amounts)) ≡ pairsVerdict width most pairs terms amounts)
+
+abbrev μ-loop : tie.MeasureT-loop
+μ-loop width most pairs terms amounts limit number₀ floor₀ i₀ number floor i = pairs - i
+
+enough-pairs-requires : tie.Need-enough-pairs-requires Inv-loop μ-loop
+enough-pairs-requires c κs = tt
+
+returns : tie.Need-returns Inv-loop μ-loop
+unfolding pairsVerdict pairsNumber
+returns c = rw (← c .before .enough-pairs .ensures, not-true (c .before .enough-pairs .result) (c .if1 .taken))
+
+cast-limit : tie.Need-cast-limit Inv-loop μ-loop
+cast-limit c = omega arith
+
+shl-limit : tie.Need-shl-limit Inv-loop μ-loop
+shl-limit c = omega arith
+
+loop-holds : tie.Need-loop-holds Inv-loop μ-loop
+unfolding pairsVerdict
+loop-holds c =
+    let a = c .before .before .before .before .args in
+    let ps = side-by-side (a .pairs) (a .terms .now) (a .amounts .now) in
+    let e : c .before .enough-pairs .result ≡ true = not-false _ (c .if1 .left) in
+    let h = enough-true (a .most) (a .pairs) (length (a .terms .now)) (length (a .amounts .now)) (sym (c .before .enough-pairs .ensures) ∙ e) in (
+      omega arith,
+      h .2,
+      h .3,
+      rw (sub-zero (a .pairs), ← c .before .enough-pairs .ensures, e) (judged-all (fitting (a .width)) ps ∙ ap (λ (t : Bool). pairsNumber t ps) (within-all (a .width) ps)),
+    )
+
+mul-term : tie.Need-mul-term Inv-loop μ-loop
+mul-term c = omega arith
+
+shared-slice-read-term : tie.Need-shared-slice-read-term Inv-loop μ-loop
+shared-slice-read-term c = omega arith
+
+cast-term : tie.Need-cast-term Inv-loop μ-loop
+cast-term c = omega (arith, c .shared-slice-known3 .given (c .before .before .loop .i))
+
+shared-slice-read-sound-pair : tie.Need-shared-slice-read-sound-pair Inv-loop μ-loop
+shared-slice-read-sound-pair c = omega arith
+
+cast-sound-pair : tie.Need-cast-sound-pair Inv-loop μ-loop
+cast-sound-pair c = omega (arith, c .shared-slice-known4 .given (c .before .before .before .loop .i))
+
+sound-pair-requires : tie.Need-sound-pair-requires Inv-loop μ-loop
+sound-pair-requires c κs = tt
+
+judge-requires : tie.Need-judge-requires Inv-loop μ-loop
+judge-requires c κs = tt
+
+add-floor : tie.Need-add-floor Inv-loop μ-loop
+add-floor c = omega (arith, c .before .before .before .shared-slice-known3 .given (c .before .before .before .before .before .loop .i))
+
+add-i : tie.Need-add-i Inv-loop μ-loop
+add-i c = omega arith
+
+loop-less : tie.Need-loop-less Inv-loop μ-loop
+loop-less c = omega arith
+
+loop-again : tie.Need-loop-again Inv-loop μ-loop
+loop-again c =
+    let at-loop = c .before .before .before .before .before in
+    let l = at-loop .loop in
+    let a = at-loop .before .before .before .before .before .args in
+    let term = getD (a .terms .now) (l .i) 0 in
+    let amount = getD (a .amounts .now) (l .i) 0 in
+    let judged : c .judge .result ≡ judgeNext (l .number) (soundPair (2 ^ a .width) term amount) (l .floor) term =
+    c .judge .ensures ∙ ap (λ (b : Bool). judgeNext (l .number) b (l .floor) term) (c .before .sound-pair .ensures ∙ ap (λ (x : ℕ). soundPair x term amount) (one-shl (a .width) 32 (omega arith))) in (
+      omega arith,
+      omega arith,
+      omega arith,
+      beside-turn (a .terms .now) (a .amounts .now) (a .width) (a .pairs) (l .i) (l .number) (l .floor) (c .judge .result) _ (omega arith) (omega arith) (omega arith) (l .inv .3) judged,
+    )
+
+returns-2 : tie.Need-returns-2 Inv-loop μ-loop
+returns-2 c =
+    let l = c .before .loop in
+    let a = c .before .before .before .before .before .before .args in
+    ap (judgedFrom (fitting (a .width)) (l .number) (l .floor)) (sym (beside-none (a .pairs - l .i) (drop (l .i) (a .terms .now)) (drop (l .i) (a .amounts .now)) (omega arith))) ∙ l .inv .3
+
+pub judge-pairs-spec : {M : Type 1} → statement M
+judge-pairs-spec =
+    tie.close
+    (tie.spec
+    Inv-loop
+    μ-loop
+    enough-pairs-requires
+    returns
+    cast-limit
+    shl-limit
+    loop-holds
+    mul-term
+    shared-slice-read-term
+    cast-term
+    shared-slice-read-sound-pair
+    cast-sound-pair
+    sound-pair-requires
+    judge-requires
+    add-floor
+    add-i
+    loop-less
+    loop-again
+    returns-2)

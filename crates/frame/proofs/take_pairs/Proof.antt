@@ -1,0 +1,128 @@
+-- `take_pairs` meets its contract. Assumes nothing.
+use Prim.Native.Nat.{_+_, _*_, _-_, _≤_}
+use native.Mathlib.Omega.{arith}
+use native.Mathlib.Numerals.{add-one}
+use native.Mathlib.Nat.{zero-mul, add-zero, sub-zero, suc-mul}
+use mathlib.Core.Bool.{Bool}
+use mathlib.Core.List.{[]}
+use mathlib.Core.Path.{_≡_, refl, sym, ap, _∙_}
+use lib.ListN.{length}
+use Rattle.paper.specs.Frame.{pairsAt, positive}
+use Rattle.frame.specs.Read.{termArray, amountArray, pairsNumber}
+use Rattle.wire.proofs.FieldLaws.{field-lt}
+use Rattle.frame.proofs.PairLaws.{judgedFrom, judged-all, counted, positive-all, turn-fits, array-turn, number-turn, pairs-none}
+use Rattle.frame.proofs.take_pairs.Statement.{statement}
+use Rattle.frame.proofs.take_pairs.Tie as tie
+
+abbrev Inv-loop : tie.InvT-loop
+Inv-loop bytes at width m terms₀ amounts₀ number₀ least₀ next₀ i₀ terms amounts number least next i =
+    (i ≤ m) × (next ≡ at + i * (10 + width)) × (terms ≡ termArray (pairsAt bytes at width i)) × (amounts ≡ amountArray (pairsAt bytes at width i))
+    × (judgedFrom counted number least (pairsAt bytes next width (m - i)) ≡ pairsNumber (positive (pairsAt bytes at width m)) (pairsAt bytes at width m))
+
+abbrev μ-loop : tie.MeasureT-loop
+μ-loop bytes at width m terms₀ amounts₀ number₀ least₀ next₀ i₀ terms amounts number least next i =
+    m - i
+
+loop-holds : tie.Need-loop-holds Inv-loop μ-loop
+unfolding pairsAt
+loop-holds c =
+    let a = c .before .args in
+    let s = a .bytes .now in
+    (omega arith, rw (zero-mul (10 + a .width), add-zero (a .at)), refl, refl, rw (sub-zero (a .m)) (judged-all counted (pairsAt s (a .at) (a .width) (a .m)) ∙ ap (λ (t : Bool). pairsNumber t (pairsAt s (a .at) (a .width) (a .m))) (positive-all (pairsAt s (a .at) (a .width) (a .m)))))
+
+-- a turn's pair lies in the bytes
+fits : (c : tie.In-loop Inv-loop μ-loop) → let a = c .before .before .before .args in
+    let e = c .before .loop .next + (10 + a .width) in (e ≤ 8 * length (a .bytes .now)) × (e ≤ 1024)
+fits c =
+    let a = c .before .before .before .args in
+    let l = c .before .loop in
+    rw (l .inv .1) (turn-fits (a .at) (a .m) (l .i) (10 + a .width) (8 * length (a .bytes .now)) (omega arith) (omega arith), turn-fits (a .at) (a .m) (l .i) (10 + a .width) 1024 (omega arith) (omega arith))
+
+take-bits-requires : tie.Need-take-bits-requires Inv-loop μ-loop
+take-bits-requires c κs = let h = fits c in omega arith
+
+add-take-bits : tie.Need-add-take-bits Inv-loop μ-loop
+add-take-bits c = let h = fits (c .before) in omega arith
+
+take-bits-requires-2 : tie.Need-take-bits-requires-2 Inv-loop μ-loop
+take-bits-requires-2 c κs = let h = fits (c .before) in omega arith
+
+mul-terms : tie.Need-mul-terms Inv-loop μ-loop
+mul-terms c = omega arith
+
+array-write-terms : tie.Need-array-write-terms Inv-loop μ-loop
+array-write-terms c = omega arith
+
+mul-amounts : tie.Need-mul-amounts Inv-loop μ-loop
+mul-amounts c = omega arith
+
+array-write-amounts : tie.Need-array-write-amounts Inv-loop μ-loop
+array-write-amounts c = omega arith
+
+judge-requires : tie.Need-judge-requires Inv-loop μ-loop
+judge-requires c κs = tt
+
+add-least : tie.Need-add-least Inv-loop μ-loop
+add-least c = omega (arith, c .before .before .take-bits .ensures, field-lt (c .before .before .before .before .before .before .args .bytes .now) (c .before .before .before .before .loop .next) 10)
+
+add-next : tie.Need-add-next Inv-loop μ-loop
+add-next c = omega arith
+
+add-next-2 : tie.Need-add-next-2 Inv-loop μ-loop
+add-next-2 c = let h = fits (c .before .before .before) in omega arith
+
+add-i : tie.Need-add-i Inv-loop μ-loop
+add-i c = omega arith
+
+loop-less : tie.Need-loop-less Inv-loop μ-loop
+loop-less c = omega arith
+
+loop-again : tie.Need-loop-again Inv-loop μ-loop
+loop-again c =
+    let l = c .before .before .before .before .loop in
+    let a = c .before .before .before .before .before .before .args in
+    let s = a .bytes .now in
+    let term = c .before .before .take-bits in
+    let amount = c .before .take-bits2 in (
+      omega arith,
+      rw (l .inv .1, add-one (l .i), suc-mul (l .i) (10 + a .width)) (omega arith),
+      array-turn s (a .width) (l .i) (l .next) (λ p. p .term) (a .at) (l .terms) (term .result) (omega arith) (l .inv .1) (l .inv .2) (term .ensures),
+      array-turn s (a .width) (l .i) (l .next) (λ p. p .amount) (a .at) (l .amounts) (amount .result) (omega arith) (l .inv .1) (l .inv .3) (amount .ensures),
+      number-turn s (a .width) (l .i) (l .next) (a .m) (l .number) (l .least) (term .result) (amount .result) (c .judge .result) _ (omega arith) (l .inv .4) (term .ensures) (amount .ensures) (c .judge .ensures),
+    )
+
+returns : tie.Need-returns Inv-loop μ-loop
+returns c =
+    let l = c .before .loop in
+    let a = c .before .before .before .args in
+    let s = a .bytes .now in
+    let e : l .i ≡ a .m = omega arith in
+    let n : pairsAt s (l .next) (a .width) (a .m - l .i) ≡ [] = pairs-none s (l .next) (a .width) (a .m - l .i) (omega arith) in
+    record {
+      number = ap (judgedFrom counted (l .number) (l .least)) (sym n) ∙ l .inv .4;
+      terms = rw (← e) (l .inv .2);
+      amounts = rw (← e) (l .inv .3);
+    }
+
+pub take-pairs-spec : {M : Type 1} → statement M
+take-pairs-spec =
+    tie.close
+    (tie.spec
+    Inv-loop
+    μ-loop
+    loop-holds
+    take-bits-requires
+    add-take-bits
+    take-bits-requires-2
+    mul-terms
+    array-write-terms
+    mul-amounts
+    array-write-amounts
+    judge-requires
+    add-least
+    add-next
+    add-next-2
+    add-i
+    loop-less
+    loop-again
+    returns)

@@ -1,0 +1,79 @@
+-- What the writer answers and leaves in the output. Document 01, "The frame" and "Replies". Assumes nothing.
+use Prim.Native.Nat.{ℕ, _+_, _^_}
+use mathlib.Core.Path.{_≡_}
+use mathlib.Core.Bool.{Bool, cond, _&&_}
+use mathlib.Core.List.{List, _++_}
+use lib.ListN.{length, take, drop}
+use lib.Dec.{eqb, leb, ltb}
+use Rattle.wire.specs.Bits.{unpack}
+use Rattle.paper.specs.Frame.{Frame, Shape, encode, termWidth, pairWidths, pairValues}
+use Rattle.paper.specs.Write.{Fields, side-by-side, within, allWithin, writeNumber, bytesOf}
+use Rattle.wire.specs.Field.{spell}
+use Rattle.frame.specs.declared.Kind.{Kind}
+use Rattle.frame.specs.declared.Kind.the-variants.{Message, Tick, Register, Unregister, Refused}
+use Rattle.frame.specs.declared.Parsed.{Parsed}
+use Rattle.frame.specs.declared.Written.{Written}
+use Rattle.frame.specs.Read.{pairsNumber}
+
+-- the fields that are handed over
+abbrev pub fields : (kind time serial number k pairs : ℕ) (terms amounts : List ℕ) → Fields
+fields kind time serial number k pairs terms amounts = record {
+  kind = kind;
+  time = time;
+  serial = serial;
+  number = number;
+  k = k;
+  pairs = pairs;
+  terms = terms;
+  amounts = amounts;
+}
+
+-- the promise of `write`, for what its fields are, with output s at entry and t at exit: the frame's bytes and what stood past them where the
+-- number is 0, and else the output as it was
+pub record WritePost (sh : Shape) (s t : List ℕ) (r : Written) : Type 0 where
+  pub number : r .number ≡ writeNumber (length s) sh
+  pub size : r .length ≡ cond (eqb (r .number) 0) (length (bytesOf sh)) 0
+  pub bytes : t ≡ cond (eqb (r .number) 0) (bytesOf sh ++ drop (length (bytesOf sh)) s) s
+
+-- the fields that an answer of the reader lists, for the writer; none of a kind for a refusal
+abbrev pub fieldsBy : Kind → List ℕ → List ℕ → Fields
+fieldsBy (Message t s n) terms amounts = fields 1 t s 0 0 n terms amounts
+fieldsBy (Tick t) terms amounts = fields 2 t 0 0 0 0 terms amounts
+fieldsBy (Register t n k m) terms amounts = fields 3 t 0 n k m terms amounts
+fieldsBy (Unregister t n) terms amounts = fields 4 t 0 n 0 0 terms amounts
+fieldsBy (Refused r) terms amounts = fields 0 0 0 0 0 0 terms amounts
+
+abbrev pub fieldsIn : Parsed → Fields
+fieldsIn r = fieldsBy (r .what) (r .terms) (r .amounts)
+
+-- ---- the inner functions
+
+-- whether a pair is within its fields' ranges, its count or weight below `limit`
+abbrev pub soundPair : ℕ → ℕ → ℕ → Bool
+soundPair limit term amount = ltb term (2 ^ termWidth) && (ltb 0 amount && ltb amount limit)
+
+-- whether a query's number and k are within their ranges
+abbrev pub soundQuery : ℕ → ℕ → Bool
+soundQuery number k = ltb number (2 ^ 5) && within (2 ^ 4) k
+
+-- whether there are from 1 to `most` pairs, and places of both lists for them
+abbrev pub enoughPairs : ℕ → ℕ → ℕ → ℕ → Bool
+enoughPairs most n a b = within most n && leb n a && leb n b
+
+-- 5 or 6, or 0, of the pairs that are handed over
+unfoldable pub pairsVerdict : ℕ → ℕ → ℕ → List ℕ → List ℕ → ℕ
+pairsVerdict w most n ts us =
+    pairsNumber (enoughPairs most n (length ts) (length us) && allWithin w (side-by-side n ts us)) (side-by-side n ts us)
+
+-- a frame put into output s, which leaves t, and its length in bytes
+pub record PutPost (f : Frame) (s t : List ℕ) (r : ℕ) : Type 0 where
+  pub size : r ≡ length (encode f)
+  pub bytes : t ≡ encode f ++ drop r s
+
+-- the bits of s, with those from bit `at` replaced by bs
+unfoldable pub laid : List ℕ → ℕ → List Bool → List Bool
+laid s at bs = take at (unpack s) ++ bs ++ drop (at + length bs) (unpack s)
+
+-- the bits of n pairs
+unfoldable pub pairBits : ℕ → ℕ → List ℕ → List ℕ → List Bool
+pairBits w n ts us = spell (pairWidths w n) (pairValues (side-by-side n ts us))

@@ -1,0 +1,4 @@
+pub mod LineLaws
+pub mod InsertLaws
+pub mod WalkLaws
+pub mod PaperLaws

@@ -1,0 +1,122 @@
+-- Slots chosen from the window and the messages that they hold. Assumes nothing.
+use Prim.Native.Nat.{ℕ, _+_, _≤_, _<_}
+use native.Mathlib.Omega.{arith}
+use mathlib.Core.Path.{_≡_, refl, sym, ap, ap₂, _∙_, subst}
+use mathlib.Core.Bool.{Bool, true, false, cond, _||_}
+use mathlib.Core.Logic.{_⊎_, inl, inr, ⊎-elim}
+use mathlib.Core.List.{List, [], _∷_, _++_, map, map-map, map-append}
+use lib.ListN.{length, getD}
+use Rattle.paper.specs.Frame.{Pair, Pairs, countWidth, mostPairs}
+use Rattle.paper.specs.Order.{In}
+use Rattle.paper.specs.Sort.{select}
+use Rattle.paper.specs.Rank.{serials}
+use Rattle.paper.specs.Window.{Message}
+use Rattle.paper.specs.Threshold.{exceeds, reached, candidates}
+use Rattle.paper.specs.Sound.{Messages}
+use Rattle.paper.proofs.Tests.{or-false}
+use Rattle.paper.proofs.SortLaws.{select-map}
+use Rattle.window.specs.Slot.{Slot, slot, stored, ring, window}
+use Rattle.candidates.specs.Match.{exceedsCells, reachedSlots, AllRising}
+use Rattle.candidates.proofs.MatchLaws.{exceeds-stored, all-rising, reached-stored, select-agree, taken-slots}
+use Rattle.query.specs.Post.{Over}
+
+-- ---- selecting
+
+pub select-none : {A : Type 0} (test : A → Bool) (l : List A) → ((x : A) → In x l → test x ≡ false) → select test l ≡ []
+unfolding select
+select-none test [] h = refl
+select-none test (x ∷ xs) h = rw (h x (inl refl)) (select-none test xs (λ y m. h y (inr m)))
+
+pub in-append : {A : Type 0} (a : A) (xs ys : List A) → In a (xs ++ ys) → In a xs ⊎ In a ys
+in-append a [] ys m = inr m
+in-append a (x ∷ xs) ys (inl e) = inl (inl e)
+in-append a (x ∷ xs) ys (inr m) = go (in-append a xs ys m)
+  where
+    go : In a xs ⊎ In a ys → In a (x ∷ xs) ⊎ In a ys
+    go (inl i) = inl (inr i)
+    go (inr i) = inr i
+
+pub in-left : {A : Type 0} (a : A) (xs ys : List A) → In a xs → In a (xs ++ ys)
+in-left a [] ys m = absurd m
+in-left a (x ∷ xs) ys (inl e) = inl e
+in-left a (x ∷ xs) ys (inr m) = inr (in-left a xs ys m)
+
+pub in-right : {A : Type 0} (a : A) (xs ys : List A) → In a ys → In a (xs ++ ys)
+in-right a [] ys m = m
+in-right a (x ∷ xs) ys m = inr (in-right a xs ys m)
+
+-- ---- messages within their ranges
+
+pub messages-in : (m : Message) (ms : List Message) → Messages ms → In m ms → Pairs countWidth mostPairs (m .pairs)
+messages-in m [] v i = absurd i
+messages-in m (x ∷ ms) v (inl e) = rw e (v .1)
+messages-in m (x ∷ ms) v (inr i) = messages-in m ms (v .2) i
+
+pub messages-select : (test : Message → Bool) (ms : List Message) → Messages ms → Messages (select test ms)
+unfolding select
+messages-select test [] v = tt
+messages-select test (m ∷ ms) v = go (test m) (messages-select test ms (v .2))
+  where
+    go : (b : Bool) → Messages (select test ms) → Messages (cond b (m ∷ select test ms) (select test ms))
+    go true ih = (v .0, v .1, ih)
+    go false ih = ih
+
+pub messages-parts : (xs ys : List Message) → Messages (xs ++ ys) → Messages xs × Messages ys
+messages-parts [] ys v = (tt, v)
+messages-parts (x ∷ xs) ys v = let r = messages-parts xs ys (v .2) in ((v .0, v .1, r .0), r .1)
+
+-- ---- slots that exceed a threshold
+
+module _ (w js : List ℕ) (ms : List Message) (valid : Messages ms) (shows : map (slot w) js ≡ map stored ms) where
+  -- the cells of slots that hold messages rise
+  pub slots-rise : AllRising (map (slot w) js)
+  slots-rise = subst AllRising (sym shows) (all-rising ms valid)
+
+  pub slots-reached : (qs : List Pair) (hs : List ℕ) → reachedSlots qs hs (map (slot w) js) ≡ reached qs hs ms
+  slots-reached qs hs = ap (reachedSlots qs hs) shows ∙ reached-stored qs hs ms valid
+
+pub over-rising : {w : List ℕ} {o n : ℕ} {ms : List Message} → Over w o n ms → AllRising (window w o n)
+over-rising {w} {o} {n} {ms} over = slots-rise w (ring o n) ms (over .valid) (over .shows)
+
+module _ (w : List ℕ) (o n : ℕ) (ms : List Message) (over : Over w o n ms) (qs : List Pair) (hs : List ℕ) where
+  -- the slots chosen because they exceed a threshold hold the candidates
+  pub chosen : (test : ℕ → Bool) → ((j : ℕ) → In j (ring o n) → test j ≡ exceedsCells qs hs (slot w j .cells))
+      → map (slot w) (select test (ring o n)) ≡ map stored (candidates qs hs ms)
+  chosen test agrees =
+      taken-slots w o n qs hs test agrees
+      ∙ ap (select exceeding) (over .shows)
+      ∙ select-map stored exceeding ms
+      ∙ ap (map stored)
+      (select-agree (λ m. exceeding (stored m)) (λ m. exceeds qs hs (m .pairs)) ms (λ m i. exceeds-stored qs hs m (messages-in m ms (over .valid) i)))
+    where
+      exceeding : Slot → Bool
+      exceeding x = exceedsCells qs hs (x .cells)
+
+-- the serials of slots that hold messages
+pub serials-of : (w js : List ℕ) (ms : List Message) → map (slot w) js ≡ map stored ms → map (λ j. slot w j .serial) js ≡ serials ms
+unfolding stored
+serials-of w js ms e =
+    sym (map-map (λ (x : Slot). x .serial) (slot w) js)
+    ∙ ap (map (λ (x : Slot). x .serial)) e
+    ∙ map-map (λ (x : Slot). x .serial) stored ms
+
+-- ---- reached by one part or the other
+
+pub reached-append : (qs : List Pair) (hs : List ℕ) (xs ys : List Message) → reached qs hs (xs ++ ys) ≡ (reached qs hs xs || reached qs hs ys)
+unfolding reached
+reached-append qs hs [] ys = refl
+reached-append qs hs (x ∷ xs) ys = go (exceeds qs hs (x .pairs)) (reached-append qs hs xs ys)
+  where
+    go : (b : Bool) → reached qs hs (xs ++ ys) ≡ (reached qs hs xs || reached qs hs ys)
+        → (b || reached qs hs (xs ++ ys)) ≡ ((b || reached qs hs xs) || reached qs hs ys)
+    go true ih = refl
+    go false ih = ih
+
+-- none of the slots does where they aren't reached
+pub unreached-slot : (qs : List Pair) (hs w js : List ℕ) → reachedSlots qs hs (map (slot w) js) ≡ false
+    → (j : ℕ) → In j js → exceedsCells qs hs (slot w j .cells) ≡ false
+unfolding reachedSlots
+unreached-slot qs hs w [] e j m = absurd m
+unreached-slot qs hs w (i ∷ js) e j m =
+    let d = or-false (exceedsCells qs hs (slot w i .cells)) (reachedSlots qs hs (map (slot w) js)) e in
+    ⊎-elim (λ p. rw p (d .0)) (λ p. unreached-slot qs hs w js (d .1) j p) m

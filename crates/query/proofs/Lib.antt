@@ -1,0 +1,10 @@
+pub mod RecordLaws
+pub mod ChosenLaws
+pub mod LiftLaws
+pub mod KeptLaws
+pub mod SettleLaws
+pub mod UpdateLaws
+pub mod FillLaws
+pub mod QueryLaws
+pub mod StoreLaws
+pub mod RegisterLaws

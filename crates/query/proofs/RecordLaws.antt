@@ -1,0 +1,127 @@
+-- What a record says depends on its own words and on the slots of the window; records stand apart; which are in use. Assumes nothing.
+use Prim.Native.Nat.{ℕ, _+_, _≤_, _<_}
+use native.Mathlib.Nat.{add-zero}
+use native.Mathlib.Omega.{arith}
+use mathlib.Core.Path.{_≡_, refl, sym, ap, ap₂, _∙_}
+use mathlib.Core.Logic.{_⊎_, inl, inr, ⊎-elim}
+use mathlib.Core.Bool.{Bool, true, false, not, _&&_}
+use mathlib.Core.List.{List, [], _∷_, map}
+use mathlib.Core.Option.{Option, none, some}
+use lib.ListN.{length, getD, take, drop}
+use lib.Dec.{eqb, ltb}
+use borrow.Author.Tests.{eq-eqb, ne-eqb, ltb-true, ltb-false}
+use Rattle.paper.specs.Frame.{Pair}
+use Rattle.paper.specs.Log.{inUse}
+use Rattle.paper.specs.Order.{In}
+use Rattle.paper.specs.Rank.{Query}
+use Rattle.paper.specs.Sort.{select}
+use Rattle.paper.specs.Sound.{Terms}
+use Rattle.paper.specs.Window.{Message}
+use Rattle.paper.proofs.SortLaws.{select-in}
+use Rattle.memory.specs.Keeps.{Keeps}
+use Rattle.memory.proofs.KeepsLaws.{keeps-at, keeps-part}
+use Rattle.window.specs.Layout.{slots, recordAt, recordWords}
+use Rattle.window.specs.Slot.{slot, ring}
+use Rattle.window.proofs.SlotLaws.{slot-kept}
+use Rattle.candidates.proofs.MatchLaws.{in-ring}
+use Rattle.candidates.specs.Match.{exceedsCells}
+use Rattle.candidates.specs.Source.{flagOf, inRing}
+use Rattle.query.specs.Record.{sizeIn, pairsIn, listedIn, thresholdsIn, serialsIn, scoresIn, flagsIn, thresholds, flags, list, candidates, Says, Holds, HoldsAt}
+
+-- functions that agree on a list's elements
+map-agree : {A B : Type 0} (f g : A → B) (l : List A) → ((x : A) → In x l → f x ≡ g x) → map f l ≡ map g l
+map-agree f g [] h = refl
+map-agree f g (x ∷ l) h = ap₂ _∷_ (h x (inl refl)) (map-agree f g l (λ y m. h y (inr m)))
+
+-- ---- words that are left alone
+
+module _ {a e : ℕ} {w w′ : List ℕ} (kept : Keeps a e w w′) where
+  -- from lo up to, not including, hi
+  word-same : {lo hi : ℕ} → (hi ≤ a) ⊎ (e ≤ lo) → (i : ℕ) → lo ≤ i → i < hi → getD w′ i 0 ≡ getD w i 0
+  word-same out i l h = keeps-at kept i (⊎-elim (λ d. inl (omega arith)) (λ d. inr (omega arith)) out)
+
+  part-same : {lo hi : ℕ} → (hi ≤ a) ⊎ (e ≤ lo) → (i n : ℕ) → lo ≤ i → i + n ≤ hi → take n (drop i w′) ≡ take n (drop i w)
+  part-same out i n l h = keeps-part kept i n (⊎-elim (λ d. inl (omega arith)) (λ d. inr (omega arith)) out)
+
+  -- the query stands before what is kept of it
+  pub says-same : {q : ℕ} {query : Query} → (listedIn q ≤ a) ⊎ (e ≤ recordAt q) → Terms query → Says w q query → Says w′ q query
+  says-same {q} {query} out t s = record {
+    k = word-same out (recordAt q) (omega arith) (omega arith) ∙ s .k;
+    size = word-same out (sizeIn q) (omega arith) (omega arith) ∙ s .size;
+    pairs = λ i h. let m = t .terms .at-most in word-same out (pairsIn q + i) (omega arith) (omega arith) ∙ s .pairs i h;
+  }
+
+  -- a whole record
+  module _ (q : ℕ) (out : (recordAt q + recordWords ≤ a) ⊎ (e ≤ recordAt q)) where
+    pub thresholds-same : (n : ℕ) → n ≤ 8 → thresholds w′ q n ≡ thresholds w q n
+    unfolding thresholds
+    thresholds-same n h = part-same out (thresholdsIn q) n (omega arith) (omega arith)
+
+    pub flags-same : flags w′ q ≡ flags w q
+    unfolding flags
+    flags-same = part-same out (flagsIn q) 9 (omega arith) (omega arith)
+
+    size-same : getD w′ (listedIn q) 0 ≡ getD w (listedIn q) 0
+    size-same = word-same out (listedIn q) (omega arith) (omega arith)
+
+    serials-same : take 16 (drop (serialsIn q) w′) ≡ take 16 (drop (serialsIn q) w)
+    serials-same = part-same out (serialsIn q) 16 (omega arith) (omega arith)
+
+    scores-same : take 16 (drop (scoresIn q) w′) ≡ take 16 (drop (scoresIn q) w)
+    scores-same = part-same out (scoresIn q) 16 (omega arith) (omega arith)
+
+    pub list-same : list w′ q ≡ list w q
+    unfolding list
+    list-same = rw (size-same, serials-same, scores-same)
+
+    module _ (o n : ℕ) (first : o < slots) (same : (j : ℕ) → j < slots → inRing o n j ≡ true → slot w′ j ≡ slot w j) where
+      pub candidates-same : candidates w′ q o n ≡ candidates w q o n
+      unfolding candidates
+      candidates-same =
+          rw flags-same
+          (map-agree (λ j. slot w′ j .serial) (λ j. slot w j .serial) (select (flagOf (flags w q)) (ring o n))
+          (λ j m. let r = in-ring o n j first (select-in (flagOf (flags w q)) j (ring o n) m .0) in ap (λ x. x .serial) (same j (r .0) (r .1))))
+
+      holds-same : {ms : List Message} {query : Query} → Terms query → Holds w q o n ms query → Holds w′ q o n ms query
+      holds-same {ms} {query} t h =
+          let m = t .terms .at-most in
+          let hs = thresholds-same (length (query .terms)) (omega arith) in
+          record {
+            says = says-same (⊎-elim (λ d. inl (omega arith)) inr out) t (h .says);
+            settled = rw (hs, candidates-same, list-same) (h .settled);
+            flagged = λ j l. rw (flags-same, hs) (h .flagged j l ∙ cells (query .terms) (thresholds w q (length (query .terms))) j l (inRing o n j) refl);
+            no-threshold = λ i l k. word-same out (thresholdsIn q + i) (omega arith) (omega arith) ∙ h .no-threshold i l k;
+            listed-most = rw size-same (h .listed-most);
+            no-serial = rw (size-same, serials-same) (h .no-serial);
+            no-score = rw (size-same, scores-same) (h .no-score);
+          }
+        where
+          cells : (qs : List Pair) (hs : List ℕ) (j : ℕ) → j < slots → (b : Bool) → inRing o n j ≡ b
+              → (b && exceedsCells qs hs (slot w j .cells)) ≡ (b && exceedsCells qs hs (slot w′ j .cells))
+          cells qs hs j l true e = ap (λ x. exceedsCells qs hs (x .cells)) (sym (same j l e))
+          cells qs hs j l false e = refl
+
+      pub holds-at-same : (ms : List Message) (x : Option Query) → ((query : Query) → x ≡ some query → Terms query) → HoldsAt w q o n ms x → HoldsAt w′ q o n ms x
+      holds-at-same ms none t h = λ i l. word-same out (recordAt q + i) (omega arith) (omega arith) ∙ h i l
+      holds-at-same ms (some query) t h = holds-same (t query refl) h
+
+-- ---- records stand apart
+
+pub records-apart : {p q a : ℕ} → (p ≡ q → ⊥) → recordAt p ≤ a → (recordAt q + recordWords ≤ a) ⊎ (recordAt p + recordWords ≤ recordAt q)
+records-apart {p} {q} {a} d h = go (ltb p q) refl
+  where
+    go : (b : Bool) → ltb p q ≡ b → (recordAt q + recordWords ≤ a) ⊎ (recordAt p + recordWords ≤ recordAt q)
+    go true e = inr (omega (arith, ltb-true p q e))
+    go false e = inl (omega (arith, ltb-false p q e))
+
+-- what is written into one record leaves the others
+pub holds-beside : {p a : ℕ} {w w′ : List ℕ} → Keeps a (recordAt p + recordWords) w w′ → recordAt p ≤ a → (q : ℕ) → (p ≡ q → ⊥) → (o n : ℕ) → o < slots
+    → (ms : List Message) (x : Option Query) → ((query : Query) → x ≡ some query → Terms query) → HoldsAt w q o n ms x → HoldsAt w′ q o n ms x
+holds-beside kept h q d o n first = holds-at-same kept q (records-apart d h) o n first (λ j l _. slot-kept kept j (inl (omega arith)))
+
+-- ---- which are in use
+
+pub in-use-is : (w : List ℕ) (q o n : ℕ) (ms : List Message) (x : Option Query) → ((query : Query) → x ≡ some query → Terms query) → HoldsAt w q o n ms x
+    → not (eqb (getD w (recordAt q) 0) 0) ≡ inUse x
+in-use-is w q o n ms none t h = ap not (eq-eqb _ 0 (rw add-zero at (h 0 (omega arith))))
+in-use-is w q o n ms (some query) t h = ap not (ne-eqb (getD w (recordAt q) 0) 0 (λ z. omega (arith, h .says .k, t query refl .k-least)))

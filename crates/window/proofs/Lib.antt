@@ -1,0 +1,4 @@
+pub mod RingLaws
+pub mod SlotLaws
+pub mod WalkLaws
+pub mod LogLaws

@@ -1,0 +1,170 @@
+-- Laws of slots: what a slot and a window read of the memory, and a message written into a slot. Assumes nothing.
+use Prim.Native.Nat.{ℕ, zero, suc, _+_, _%_, _^_, _≤_, _<_}
+use native.Mathlib.Nat.{not-suc-le-zero, min-le-right, min-eq-left}
+use native.Mathlib.Omega.{arith}
+use mathlib.Core.Path.{_≡_, refl, ap, ap₂, _∙_}
+use mathlib.Core.Logic.{_⊎_, inl, inr, ⊎-elim}
+use mathlib.Core.Bool.{Bool, true, false}
+use mathlib.Core.List.{List, [], _∷_, _++_, map, map-append}
+use lib.ListN.{length, getD, set, length-set}
+use lib.Seq.{getD-set-same, getD-set-other}
+use lib.Dec.{ltb}
+use borrow.Author.Tests.{ltb-true, ltb-false}
+use Rattle.paper.specs.Frame.{mostPairs}
+use Rattle.paper.specs.Impact.{impact, squares}
+use Rattle.paper.specs.Window.{Message}
+use Rattle.paper.specs.Write.{side-by-side}
+use Rattle.paper.specs.Log.{stateLength}
+use Rattle.memory.specs.Words.{words, putWord}
+use Rattle.memory.specs.Keeps.{Keeps, Stored}
+use Rattle.memory.proofs.WordLaws.{words-length, put-word, put-length}
+use Rattle.memory.proofs.KeepsLaws.{keeps-trans, keeps-wider, keeps-set, keeps-at, keeps-part}
+use Rattle.impact.specs.Cell.{packed, cellOf, cellsOf, squaresOf}
+use Rattle.impact.proofs.CellLaws.{squares-side}
+use Rattle.window.specs.Layout.{slots, slotWords, slotAt, cellsAt, recordAt}
+use Rattle.window.specs.Slot.{Slot, slot, sizeAt, stored, ring, window}
+use Rattle.window.specs.Cursor.{Written}
+use Rattle.window.proofs.RingLaws.{ring-length, ring-last, ring-below, ring-fresh}
+
+-- ---- what a slot and a window read
+
+-- a slot reads its own words only
+pub slot-kept : {a e : ℕ} {w w′ : List ℕ} → Keeps a e w w′ → (j : ℕ) → (slotAt j + slotWords ≤ a) ⊎ (e ≤ slotAt j) → slot w′ j ≡ slot w j
+unfolding slot
+slot-kept {a} {e} {w} {w′} kept j d =
+    let most : sizeAt w j ≤ mostPairs = min-le-right (getD w (slotAt j + 2) 0) mostPairs in
+    rw (
+      word (slotAt j) (omega arith) (omega arith),
+      word (slotAt j + 1) (omega arith) (omega arith),
+      word (slotAt j + 2) (omega arith) (omega arith),
+      keeps-part kept (cellsAt j) (sizeAt w j) (⊎-elim (λ b. inl (omega arith)) (λ b. inr (omega arith)) d),
+    )
+  where
+    word : (i : ℕ) → slotAt j ≤ i → i < slotAt j + slotWords → getD w′ i 0 ≡ getD w i 0
+    word i l h = keeps-at kept i (⊎-elim (λ b. inl (omega arith)) (λ b. inr (omega arith)) d)
+
+-- a window reads its own slots only
+slots-agree : (w w′ js : List ℕ) → ((i : ℕ) → i < length js → slot w′ (getD js i 0) ≡ slot w (getD js i 0)) → map (slot w′) js ≡ map (slot w) js
+slots-agree w w′ [] same = refl
+slots-agree w w′ (j ∷ js) same = ap₂ _∷_ (same 0 (omega arith)) (slots-agree w w′ js (λ i h. same (suc i) (omega arith)))
+
+window-agree : (w w′ : List ℕ) (o n : ℕ) → ((i : ℕ) → i < n → slot w′ (getD (ring o n) i 0) ≡ slot w (getD (ring o n) i 0)) → window w′ o n ≡ window w o n
+window-agree w w′ o n same = slots-agree w w′ (ring o n) (λ i h. same i (let l = ring-length o n in omega arith))
+
+-- what is written before or after the ring doesn't change a window
+pub window-kept : {a e : ℕ} {w w′ : List ℕ} → Keeps a e w w′ → (recordAt 0 ≤ a) ⊎ (e ≤ slotAt 0) → (o n : ℕ) → o < slots → window w′ o n ≡ window w o n
+window-kept {a} {e} {w} {w′} kept d o n low =
+    window-agree w w′ o n
+    (λ i h. let b = ring-below o n i low h in slot-kept kept (getD (ring o n) i 0) (⊎-elim (λ l. inl (omega arith)) (λ l. inr (omega arith)) d))
+
+-- two slots lie side by side
+apart : (j k : ℕ) → (k ≡ j → ⊥) → (slotAt k + slotWords ≤ slotAt j) ⊎ (slotAt j + slotWords ≤ slotAt k)
+apart j k ne = go (ltb k j) refl
+  where
+    go : (b : Bool) → ltb k j ≡ b → (slotAt k + slotWords ≤ slotAt j) ⊎ (slotAt j + slotWords ≤ slotAt k)
+    go true e = let h = ltb-true k j e in inl (omega arith)
+    go false e = let h = ltb-false k j e in inr (omega arith)
+
+-- a message written into the slot after a window
+module _ {o n : ℕ} {m : Message} {w w′ : List ℕ} (low : o < slots) (room : n < slots) (written : Written ((o + n) % slots) m w w′) where
+  -- the window stays
+  pub window-beside : window w′ o n ≡ window w o n
+  window-beside =
+      window-agree w w′ o n (λ i h. slot-kept (written .keeps) (getD (ring o n) i 0) (apart ((o + n) % slots) (getD (ring o n) i 0) (ring-fresh o n i low room h)))
+
+  -- and the message is its next
+  pub window-joined : window w′ o (suc n) ≡ window w o n ++ (stored m ∷ [])
+  window-joined =
+      ap (map (slot w′)) (ring-last o n low)
+      ∙ map-append (slot w′) (ring o n) (((o + n) % slots) ∷ [])
+      ∙ ap₂ (λ (l : List Slot) (x : Slot). l ++ (x ∷ [])) window-beside (written .holds)
+
+-- ---- a message written
+
+-- the cells of pairs that stand side by side in two lists
+cells-in : (n m : ℕ) (ts fs : List ℕ) → m ≤ length ts → m ≤ length fs
+    → (length (map (cellOf n) (side-by-side m ts fs)) ≡ m)
+    × ((i : ℕ) → i < m → getD (map (cellOf n) (side-by-side m ts fs)) i 0 ≡ packed (getD ts i 0) (getD fs i 0) (impact (getD fs i 0) n))
+unfolding side-by-side
+cells-in n zero ts fs ht hf = (refl, λ i h. absurd (not-suc-le-zero h))
+cells-in n (suc m) [] fs ht hf = absurd (not-suc-le-zero ht)
+cells-in n (suc m) (t ∷ ts) [] ht hf = absurd (not-suc-le-zero hf)
+cells-in n (suc m) (t ∷ ts) (f ∷ fs) ht hf = let r = cells-in n m ts fs (omega arith) (omega arith) in (ap suc (r .0), at (r .1))
+  where
+    at : ((i : ℕ) → i < m → getD (map (cellOf n) (side-by-side m ts fs)) i 0 ≡ packed (getD ts i 0) (getD fs i 0) (impact (getD fs i 0) n))
+        → (i : ℕ) → i < suc m
+        → getD (map (cellOf n) (side-by-side (suc m) (t ∷ ts) (f ∷ fs))) i 0 ≡ packed (getD (t ∷ ts) i 0) (getD (f ∷ fs) i 0) (impact (getD (f ∷ fs) i 0) n)
+    at r zero h = refl
+    at r (suc i) h = r i (omega arith)
+
+module _ (m : ℕ) (ts fs : List ℕ) (ht : m ≤ length ts) (hf : m ≤ length fs) where
+  pub cells-length : length (cellsOf (side-by-side m ts fs)) ≡ m
+  unfolding cellsOf
+  cells-length = cells-in (squares (side-by-side m ts fs)) m ts fs ht hf .0
+
+  pub cell-at : (i : ℕ) → i < m → getD (cellsOf (side-by-side m ts fs)) i 0 ≡ packed (getD ts i 0) (getD fs i 0) (impact (getD fs i 0) (squaresOf m fs))
+  unfolding cellsOf
+  cell-at i h = cells-in (squares (side-by-side m ts fs)) m ts fs ht hf .1 i h ∙ ap (λ (n : ℕ). packed (getD ts i 0) (getD fs i 0) (impact (getD fs i 0) n)) (squares-side m ts fs ht)
+
+-- in words: time, serial and number of cells, then the cells
+slot-written : (j : ℕ) (x : Message) (m : ℕ) (w w′ : List ℕ) → slotAt j + slotWords ≤ length w → m ≤ mostPairs
+    → Stored (cellsAt j) m (cellsOf (x .pairs)) (set (set (set w (slotAt j) (x .time)) (slotAt j + 1) (x .serial)) (slotAt j + 2) m) w′ → Written j x w w′
+unfolding slot stored
+slot-written j x m w w′ long few cells = record {
+  keeps =
+      keeps-trans (one w (slotAt j) (x .time) (omega arith) (omega arith))
+      (keeps-trans (one w₁ (slotAt j + 1) (x .serial) (omega arith) (omega arith))
+      (keeps-trans (one w₂ (slotAt j + 2) m (omega arith) (omega arith)) (keeps-wider (omega arith) (omega arith) (cells .keeps))));
+  holds = rw (time-is, serial-is, size-is, min-eq-left few, cells .reads);
+}
+  where
+    w₁ : List ℕ
+    w₁ = set w (slotAt j) (x .time)
+
+    w₂ : List ℕ
+    w₂ = set w₁ (slotAt j + 1) (x .serial)
+
+    w₃ : List ℕ
+    w₃ = set w₂ (slotAt j + 2) m
+
+    one : (v : List ℕ) (i y : ℕ) → slotAt j ≤ i → i < slotAt j + slotWords → Keeps (slotAt j) (slotAt j + slotWords) v (set v i y)
+    one v i y l h = keeps-wider l h (keeps-set v i y)
+
+    before : (i : ℕ) → i < cellsAt j → getD w′ i 0 ≡ getD w₃ i 0
+    before i h = cells .keeps .below i h
+
+    time-is : getD w′ (slotAt j) 0 ≡ x .time
+    time-is =
+        before (slotAt j) (omega arith)
+        ∙ getD-set-other w₂ (slotAt j + 2) (slotAt j) m 0 (omega arith)
+        ∙ getD-set-other w₁ (slotAt j + 1) (slotAt j) (x .serial) 0 (omega arith)
+        ∙ getD-set-same w (slotAt j) (x .time) 0 (omega arith)
+
+    serial-is : getD w′ (slotAt j + 1) 0 ≡ x .serial
+    serial-is =
+        before (slotAt j + 1) (omega arith)
+        ∙ getD-set-other w₂ (slotAt j + 2) (slotAt j + 1) m 0 (omega arith)
+        ∙ getD-set-same w₁ (slotAt j + 1) (x .serial) 0 (let l = length-set w (slotAt j) (x .time) in omega arith)
+
+    size-is : getD w′ (slotAt j + 2) 0 ≡ m
+    size-is =
+        before (slotAt j + 2) (omega arith)
+        ∙ getD-set-same w₂ (slotAt j + 2) m 0 (let l = length-set w (slotAt j) (x .time) in let k = length-set w₁ (slotAt j + 1) (x .serial) in omega arith)
+
+-- as the words are put one after the other
+pub message-written : (j : ℕ) (x : Message) (m : ℕ) (s₀ s₁ s₂ s₃ : List ℕ) {w′ : List ℕ} → length s₀ ≡ stateLength → j < slots → m ≤ mostPairs
+    → x .time < 2 ^ 32 → x .serial < 2 ^ 32 → s₁ ≡ putWord s₀ (slotAt j) (x .time) → s₂ ≡ putWord s₁ (slotAt j + 1) (x .serial)
+    → s₃ ≡ putWord s₂ (slotAt j + 2) m → Stored (cellsAt j) m (cellsOf (x .pairs)) (words s₃) w′ → Written j x (words s₀) w′
+message-written j x m s₀ s₁ s₂ s₃ {w′} long low few ht hs e₁ e₂ e₃ cells =
+    let l₁ : length s₁ ≡ length s₀ = ap length e₁ ∙ put-length s₀ (slotAt j) (x .time) in
+    let l₂ : length s₂ ≡ length s₁ = ap length e₂ ∙ put-length s₁ (slotAt j + 1) (x .serial) in
+    let l = words-length s₀ in
+    slot-written j x m (words s₀) w′ (omega arith) few
+    (rw (
+      e₃,
+      put-word s₂ (slotAt j + 2) m (omega arith) (omega arith),
+      e₂,
+      put-word s₁ (slotAt j + 1) (x .serial) (omega arith) hs,
+      e₁,
+      put-word s₀ (slotAt j) (x .time) (omega arith) ht,
+    ) at cells)

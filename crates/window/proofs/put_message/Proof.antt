@@ -1,0 +1,32 @@
+-- `put_message` meets its contract. Assumes nothing.
+use native.Mathlib.Omega.{arith}
+use borrow.Author.Needs.{needs}
+use Rattle.window.proofs.SlotLaws.{message-written}
+use Rattle.window.proofs.put_message.Statement.{statement}
+use Rattle.window.proofs.put_message.Tie as tie
+
+returns : tie.Need-returns
+returns c =
+    let cells = c .before .before in
+    let size = cells .before .before .before .before in
+    let serial = size .before .before .before .before in
+    let time = serial .before .before .before .before in
+    message-written _ _ _ _ _ _ _ (omega arith) (omega arith) (omega arith) (search needs) (search needs) (time .put .ensures)
+    (serial .put2 .ensures) (size .put3 .ensures) (cells .put-cells .ensures)
+
+pub put-message-spec : {M : Type 1} → statement M
+put-message-spec =
+    tie.close
+    (tie.spec
+    (λ c. search needs)
+    (λ c. search needs)
+    (λ c κs. search needs)
+    (λ c. search needs)
+    (λ c κs. search needs)
+    (λ c. search needs)
+    (λ c. search needs)
+    (λ c κs. search needs)
+    (λ c. search needs)
+    (λ c κs. search needs)
+    (λ c. search needs)
+    returns)

@@ -1,0 +1,208 @@
+//! The C entries behind safe calls. Every lent slice lies between guard bytes, which each call must leave alone.
+
+pub const STATE: usize = 27232;
+pub const FRAME_ANSWER: usize = 8;
+pub const LIST_ANSWER: usize = 132;
+
+extern "C" {
+    fn fennelrake_start(state: *mut u8, state_len: usize, capacity: u32, life: u32) -> u32;
+    fn fennelrake_frame(state: *mut u8, state_len: usize, bytes: *const u8, bytes_len: usize, answer: *mut u8, answer_len: usize) -> u32;
+    fn fennelrake_list(state: *const u8, state_len: usize, number: u32, answer: *mut u8, answer_len: usize) -> u32;
+    fn fennelrake_postings(state: *const u8, state_len: usize, term: u32, out: *mut u8, out_len: usize) -> u64;
+    #[allow(clippy::too_many_arguments)]
+    fn fennelrake_write(
+        kind: u32, time: u32, serial: u32, number: u32, k: u32, pairs: u32,
+        terms: *const u8, terms_len: usize, amounts: *const u8, amounts_len: usize, out: *mut u8, out_len: usize,
+    ) -> u64;
+}
+
+const GUARD: usize = 64;
+
+/// Bytes to lend, between guards.
+#[derive(Clone)]
+pub struct Lent {
+    all: Vec<u8>,
+}
+
+fn guard(i: usize) -> u8 {
+    (i * 37 + 11) as u8
+}
+
+impl Lent {
+    pub fn new(bytes: &[u8]) -> Self {
+        let mut all: Vec<u8> = (0..GUARD).map(guard).collect();
+        all.extend_from_slice(bytes);
+        all.extend((0..GUARD).map(guard));
+        Lent { all }
+    }
+
+    pub fn bytes(&self) -> &[u8] {
+        &self.all[GUARD..self.all.len() - GUARD]
+    }
+
+    fn at(&mut self) -> *mut u8 {
+        // SAFETY: within the allocation
+        unsafe { self.all.as_mut_ptr().add(GUARD) }
+    }
+
+    fn check(&self) {
+        let end = self.all.len() - GUARD;
+        for i in 0..GUARD {
+            assert_eq!(self.all[i], guard(i), "a call wrote before the lent bytes");
+            assert_eq!(self.all[end + i], guard(i), "a call wrote past the lent bytes");
+        }
+    }
+}
+
+pub fn word(bytes: &[u8], i: usize) -> u32 {
+    u32::from_be_bytes(bytes[4 * i..4 * i + 4].try_into().unwrap())
+}
+
+/// A frame's answer.
+#[derive(Debug, PartialEq, Eq, Clone, Copy)]
+pub struct Reply {
+    pub number: u32,
+    pub marks: u32,
+    pub departures: u32,
+}
+
+pub fn start(state: &mut Lent, capacity: u32, life: u32) -> u32 {
+    let len = state.bytes().len();
+    // SAFETY: the pointer and length are of one slice
+    let r = unsafe { fennelrake_start(state.at(), len, capacity, life) };
+    state.check();
+    r
+}
+
+/// The reply; a refusal must leave state and answer as they were.
+pub fn frame(state: &mut Lent, bytes: &[u8]) -> Reply {
+    let mut answer = Lent::new(&[0xa5; FRAME_ANSWER + 3]);
+    let number = frame_into(state, bytes, &mut answer);
+    let a = answer.bytes();
+    assert_eq!(&a[FRAME_ANSWER..], [0xa5; 3], "bytes past the answer changed");
+    if number == 0 {
+        Reply { number, marks: word(a, 0), departures: word(a, 1) }
+    } else {
+        assert_eq!(a[..FRAME_ANSWER], [0xa5; FRAME_ANSWER], "a refusal wrote an answer");
+        Reply { number, marks: 0, departures: 0 }
+    }
+}
+
+pub fn frame_into(state: &mut Lent, bytes: &[u8], answer: &mut Lent) -> u32 {
+    let before = state.clone();
+    let (n, m) = (state.bytes().len(), answer.bytes().len());
+    // SAFETY: each pointer and length are of one slice, and the slices don't overlap
+    let r = unsafe { fennelrake_frame(state.at(), n, bytes.as_ptr(), bytes.len(), answer.at(), m) };
+    state.check();
+    answer.check();
+    if r != 0 {
+        assert!(before.bytes() == state.bytes(), "a refusal changed the state");
+    }
+    r
+}
+
+/// The list of a query as a reading returns it, or the number that refuses it.
+pub fn list(state: &Lent, number: u32) -> Result<Vec<(u32, u32)>, u32> {
+    let mut copy = state.clone();
+    let mut answer = Lent::new(&[0xa5; LIST_ANSWER + 3]);
+    let (n, m) = (copy.bytes().len(), answer.bytes().len());
+    // SAFETY: as above
+    let r = unsafe { fennelrake_list(copy.at(), n, number, answer.at(), m) };
+    copy.check();
+    answer.check();
+    assert!(copy.bytes() == state.bytes(), "a reading wrote in the state");
+    let a = answer.bytes();
+    assert_eq!(&a[LIST_ANSWER..], [0xa5; 3], "bytes past the answer changed");
+    if r != 0 {
+        assert_eq!(a[..LIST_ANSWER], [0xa5; LIST_ANSWER], "a refusal wrote an answer");
+        return Err(r);
+    }
+    let count = word(a, 0) as usize;
+    assert!(count <= 16);
+    for i in count..16 {
+        assert_eq!((word(a, 1 + i), word(a, 17 + i)), (0, 0), "an unused place isn't 0");
+    }
+    Ok((0..count).map(|i| (word(a, 1 + i), word(a, 17 + i))).collect())
+}
+
+/// The postings of a term, written into output of so many bytes, or the number that refuses it.
+pub fn postings(state: &Lent, term: u32, room: usize) -> Result<Vec<(u32, u32)>, u32> {
+    let mut copy = state.clone();
+    let mut out = Lent::new(&vec![0xa5; room]);
+    let n = copy.bytes().len();
+    // SAFETY: as above
+    let r = unsafe { fennelrake_postings(copy.at(), n, term, out.at(), room) };
+    copy.check();
+    out.check();
+    assert!(copy.bytes() == state.bytes(), "a reading wrote in the state");
+    let (number, count) = ((r >> 32) as u32, r as u32 as usize);
+    let written = if number == 0 { 8 * count } else { 0 };
+    assert!(out.bytes()[written..].iter().all(|&b| b == 0xa5), "output past what is written changed");
+    if number != 0 {
+        assert_eq!(count, 0, "a refusal returned a count");
+        return Err(number);
+    }
+    Ok((0..count).map(|i| (word(out.bytes(), 2 * i), word(out.bytes(), 2 * i + 1))).collect())
+}
+
+/// The fields of a frame to write: any numbers.
+#[derive(Debug, Clone, Default)]
+pub struct Fields {
+    pub kind: u32,
+    pub time: u32,
+    pub serial: u32,
+    pub number: u32,
+    pub k: u32,
+    pub pairs: u32,
+    pub terms: Vec<u16>,
+    pub amounts: Vec<u8>,
+}
+
+/// The frame's bytes, or the number that refuses it.
+pub fn write(f: &Fields, room: usize) -> Result<Vec<u8>, u32> {
+    let terms: Vec<u8> = f.terms.iter().flat_map(|t| t.to_be_bytes()).collect();
+    let mut out = Lent::new(&vec![0xa5; room]);
+    // SAFETY: as above
+    let r = unsafe {
+        fennelrake_write(
+            f.kind, f.time, f.serial, f.number, f.k, f.pairs,
+            terms.as_ptr(), terms.len(), f.amounts.as_ptr(), f.amounts.len(), out.at(), room,
+        )
+    };
+    out.check();
+    let (number, length) = ((r >> 32) as u32, r as u32 as usize);
+    assert!(out.bytes()[if number == 0 { length } else { 0 }..].iter().all(|&b| b == 0xa5), "output past the frame changed");
+    if number != 0 {
+        assert_eq!(length, 0, "a refusal returned a length");
+        return Err(number);
+    }
+    Ok(out.bytes()[..length].to_vec())
+}
+
+// ---- what the state memory keeps (docs/STATE.md)
+
+/// The bytes of a query's record.
+pub fn record(state: &[u8], q: usize) -> &[u8] {
+    &state[4 * (4888 + 60 * q)..4 * (4888 + 60 * (q + 1))]
+}
+
+pub struct Kept {
+    pub thresholds: Vec<u32>,
+    pub candidates: Vec<u32>,
+}
+
+/// What a registered query's record keeps: its thresholds, and its candidates by serial in the order of acceptance.
+pub fn kept(state: &[u8], q: usize) -> Option<Kept> {
+    let r = record(state, q);
+    if word(r, 0) == 0 {
+        return None;
+    }
+    let n = word(r, 1) as usize;
+    let (oldest, count) = (word(state, 3) as usize, word(state, 4) as usize);
+    let candidates = (0..count)
+        .map(|i| (oldest + i) % 257)
+        .filter(|j| word(r, 51 + j / 32) >> (31 - j % 32) & 1 == 1)
+        .map(|j| word(state, 5 + 19 * j + 1))
+        .collect();
+    Some(Kept { thresholds: (0..n).map(|i| word(r, 11 + i)).collect(), candidates })
+}

@@ -1,0 +1,121 @@
+//! The paper log of the document and a full ranking after each frame. It shares no code with the engine and is written for plainness.
+
+pub use passage::Frame;
+
+pub const TOP: u64 = 1000;
+
+#[derive(Debug, Clone)]
+pub struct Message {
+    pub time: u32,
+    pub serial: u32,
+    pub pairs: Vec<(u32, u32)>,
+}
+
+#[derive(Debug, Clone)]
+pub struct Query {
+    pub k: usize,
+    pub terms: Vec<(u32, u32)>,
+}
+
+// ---- impact and rank
+
+/// The greatest whole w with w² × n ≤ (1000 × f)².
+pub fn impact(f: u64, n: u64) -> u64 {
+    let mut w = 0;
+    while (w + 1) * (w + 1) * n <= (TOP * f) * (TOP * f) {
+        w += 1;
+    }
+    w
+}
+
+impl Message {
+    pub fn impact(&self, term: u32) -> u64 {
+        let n: u64 = self.pairs.iter().map(|p| p.1 as u64 * p.1 as u64).sum();
+        self.pairs.iter().find(|p| p.0 == term).map_or(0, |p| impact(p.1 as u64, n))
+    }
+
+    pub fn score(&self, q: &Query) -> u64 {
+        q.terms.iter().map(|&(t, w)| w as u64 * self.impact(t)).sum()
+    }
+
+    pub fn exceeds(&self, q: &Query, thresholds: &[u32]) -> bool {
+        q.terms.iter().zip(thresholds).any(|(&(t, _), &h)| self.impact(t) > h as u64)
+    }
+}
+
+/// Serial and value of those of positive value, higher first and the later first among equals.
+fn ordered<'a>(ms: impl Iterator<Item = &'a Message>, value: impl Fn(&Message) -> u64) -> Vec<(u32, u32)> {
+    let mut all: Vec<(usize, u32, u64)> = ms.enumerate().map(|(i, m)| (i, m.serial, value(m))).filter(|e| e.2 > 0).collect();
+    all.sort_by(|a, b| b.2.cmp(&a.2).then(b.0.cmp(&a.0)));
+    all.into_iter().map(|(_, s, v)| (s, v as u32)).collect()
+}
+
+// ---- the log
+
+#[derive(Clone)]
+pub struct Log {
+    pub capacity: usize,
+    pub life: u32,
+    pub clock: u32,
+    pub messages: Vec<Message>,
+    pub queries: Vec<Option<Query>>,
+}
+
+impl Log {
+    pub fn new(capacity: usize, life: u32) -> Self {
+        Log { capacity, life, clock: 0, messages: Vec::new(), queries: vec![None; 32] }
+    }
+
+    /// The places of the messages in force at a time.
+    pub fn in_force_at(&self, time: u32) -> Vec<usize> {
+        let first = self.messages.len().saturating_sub(self.capacity);
+        (first..self.messages.len()).filter(|&i| time - self.messages[i].time < self.life).collect()
+    }
+
+    pub fn in_force(&self) -> Vec<&Message> {
+        self.in_force_at(self.clock).into_iter().map(|i| &self.messages[i]).collect()
+    }
+
+    pub fn judge(&self, bytes: &[u8]) -> Result<Frame, u32> {
+        let f = Frame::read(bytes)?;
+        if f.time() < self.clock {
+            return Err(7);
+        }
+        match &f {
+            Frame::Message { time, serial, .. } if self.in_force_at(*time).iter().any(|&i| self.messages[i].serial == *serial) => Err(8),
+            Frame::Register { number, .. } if self.queries[*number].is_some() => Err(9),
+            Frame::Drop { number, .. } if self.queries[*number].is_none() => Err(10),
+            _ => Ok(f),
+        }
+    }
+
+    /// Takes an accepted frame in: the messages that departed and arrived.
+    pub fn accept(&mut self, f: &Frame) -> (Vec<Message>, Vec<Message>) {
+        let before = self.in_force_at(self.clock);
+        self.clock = f.time();
+        let mut arrived = Vec::new();
+        match f {
+            Frame::Message { time, serial, pairs } => {
+                let m = Message { time: *time, serial: *serial, pairs: pairs.clone() };
+                self.messages.push(m.clone());
+                arrived.push(m);
+            }
+            Frame::Tick { .. } => {}
+            Frame::Register { number, k, terms, .. } => self.queries[*number] = Some(Query { k: *k, terms: terms.clone() }),
+            Frame::Drop { number, .. } => self.queries[*number] = None,
+        }
+        let after = self.in_force_at(self.clock);
+        let departed = before.iter().filter(|i| !after.contains(i)).map(|&i| self.messages[i].clone()).collect();
+        (departed, arrived)
+    }
+
+    pub fn ranking(&self, q: &Query) -> Vec<(u32, u32)> {
+        let mut all = ordered(self.in_force().into_iter(), |m| m.score(q));
+        all.truncate(q.k);
+        all
+    }
+
+    pub fn postings(&self, term: u32) -> Vec<(u32, u32)> {
+        ordered(self.in_force().into_iter(), |m| m.impact(term))
+    }
+}

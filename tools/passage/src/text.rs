@@ -1,0 +1,172 @@
+//! A passage as text, one line a frame:
+//!
+//! ```text
+//! engine 3 100                      N and T; the first line
+//! register 0 query 0 k 2 5:1 9:2    time, number, list length, term:weight ..
+//! message 20 serial 2 5:1 9:4       time, serial, term:count ..
+//! tick 120
+//! drop 130 query 0
+//! bytes 20 00 00 07 81              a frame of any bytes, in hexadecimal
+//! ```
+//!
+//! What follows a `#` and empty lines are left out.
+
+use crate::Frame;
+
+/// A passage: N, T and the bytes of each frame.
+#[derive(Debug, PartialEq, Eq)]
+pub struct Passage {
+    pub capacity: u32,
+    pub life: u32,
+    pub frames: Vec<Vec<u8>>,
+}
+
+/// What is wrong with a text, and in which line.
+#[derive(Debug, PartialEq, Eq)]
+pub struct Wrong {
+    pub line: usize,
+    pub what: String,
+}
+
+fn number(words: &mut std::slice::Iter<&str>, name: &str, least: u64, most: u64) -> Result<u64, String> {
+    let word = words.next().ok_or(format!("{name} is missing"))?;
+    match word.parse() {
+        Ok(n) if (least..=most).contains(&n) => Ok(n),
+        _ => Err(format!("{name} must be a number from {least} to {most}, and is '{word}'")),
+    }
+}
+
+fn keyword(words: &mut std::slice::Iter<&str>, want: &str) -> Result<(), String> {
+    match words.next() {
+        Some(word) if *word == want => Ok(()),
+        other => Err(format!("'{want}' is expected, and there is '{}'", other.unwrap_or(&""))),
+    }
+}
+
+fn pairs(words: &mut std::slice::Iter<&str>, most: usize, name: &str, top: u32) -> Result<Vec<(u32, u32)>, String> {
+    let mut ps: Vec<(u32, u32)> = Vec::new();
+    for word in words {
+        let (t, a) = word.split_once(':').ok_or(format!("a pair term:{name} is expected, and there is '{word}'"))?;
+        let (t, a) = match (t.parse(), a.parse()) {
+            (Ok(t), Ok(a)) if t <= 1023 && (1..=top).contains(&a) => (t, a),
+            _ => return Err(format!("a pair is a term 0 to 1023 and a {name} 1 to {top}, and there is '{word}'")),
+        };
+        if ps.last().is_some_and(|p| p.0 >= t) {
+            return Err(format!("terms must rise, and {t} follows {}", ps.last().unwrap().0));
+        }
+        ps.push((t, a));
+    }
+    if ps.is_empty() || ps.len() > most {
+        return Err(format!("1 to {most} pairs are expected, and there are {}", ps.len()));
+    }
+    Ok(ps)
+}
+
+fn frame(words: &[&str]) -> Result<Vec<u8>, String> {
+    let mut w = words.iter();
+    let kind = *w.next().unwrap();
+    if kind == "bytes" {
+        return w.map(|b| u8::from_str_radix(b, 16).map_err(|_| format!("'{b}' is no byte"))).collect();
+    }
+    if !["message", "tick", "register", "drop"].contains(&kind) {
+        return Err(format!("'{kind}' is no kind of frame: message, tick, register, drop or bytes"));
+    }
+    let time = number(&mut w, "the time", 0, u32::MAX as u64)? as u32;
+    let f = match kind {
+        "message" => {
+            keyword(&mut w, "serial")?;
+            let serial = number(&mut w, "the serial", 0, 1_048_575)? as u32;
+            Frame::Message { time, serial, pairs: pairs(&mut w, 16, "count", 255)? }
+        }
+        "tick" => Frame::Tick { time },
+        "register" => {
+            keyword(&mut w, "query")?;
+            let query = number(&mut w, "the query", 0, 31)? as usize;
+            keyword(&mut w, "k")?;
+            let k = number(&mut w, "k", 1, 16)? as usize;
+            Frame::Register { time, number: query, k, terms: pairs(&mut w, 8, "weight", 15)? }
+        }
+        _ => {
+            keyword(&mut w, "query")?;
+            Frame::Drop { time, number: number(&mut w, "the query", 0, 31)? as usize }
+        }
+    };
+    match w.next() {
+        Some(word) => Err(format!("'{word}' is more than the frame has")),
+        None => Ok(f.bytes()),
+    }
+}
+
+impl Passage {
+    pub fn parse(text: &str) -> Result<Passage, Wrong> {
+        let mut passage = None;
+        for (i, whole) in text.lines().enumerate() {
+            let wrong = |what| Wrong { line: i + 1, what };
+            let words: Vec<&str> = whole.split('#').next().unwrap().split_whitespace().collect();
+            if words.is_empty() {
+                continue;
+            }
+            match &mut passage {
+                None => {
+                    let mut w = words.iter();
+                    keyword(&mut w, "engine").map_err(wrong)?;
+                    let capacity = number(&mut w, "N", 1, 256).map_err(wrong)? as u32;
+                    let life = number(&mut w, "T", 0, 65535).map_err(wrong)? as u32;
+                    passage = Some(Passage { capacity, life, frames: Vec::new() });
+                }
+                Some(p) => {
+                    let bytes = frame(&words).map_err(wrong)?;
+                    if bytes.len() > 255 {
+                        return Err(wrong("a session's frame has at most 255 bytes".into()));
+                    }
+                    p.frames.push(bytes);
+                }
+            }
+        }
+        passage.ok_or(Wrong { line: 1, what: "the line 'engine N T' is missing".into() })
+    }
+
+    pub fn show(&self) -> String {
+        let mut out = format!("engine {} {}\n", self.capacity, self.life);
+        for bytes in &self.frames {
+            out += &match Frame::read(bytes) {
+                Ok(f) => line(&f),
+                Err(_) => bytes.iter().fold("bytes".into(), |s: String, b| s + &format!(" {b:02x}")),
+            };
+            out.push('\n');
+        }
+        out
+    }
+
+    /// The session program's input.
+    pub fn input(&self) -> Vec<u8> {
+        let mut out = vec![(self.capacity - 1) as u8, (self.life >> 8) as u8, self.life as u8];
+        for f in &self.frames {
+            out.push(f.len() as u8);
+            out.extend_from_slice(f);
+        }
+        out
+    }
+
+    /// The passage that a session's input is; a cut last frame has the bytes that are there. None where the header is cut.
+    pub fn from_input(input: &[u8]) -> Option<Passage> {
+        let (header, mut rest) = input.split_at_checked(3)?;
+        let mut frames = Vec::new();
+        while let Some((&len, more)) = rest.split_first() {
+            let n = (len as usize).min(more.len());
+            frames.push(more[..n].to_vec());
+            rest = &more[n..];
+        }
+        Some(Passage { capacity: header[0] as u32 + 1, life: (header[1] as u32) << 8 | header[2] as u32, frames })
+    }
+}
+
+fn line(f: &Frame) -> String {
+    let pairs = |ps: &[(u32, u32)]| ps.iter().fold(String::new(), |s, p| s + &format!(" {}:{}", p.0, p.1));
+    match f {
+        Frame::Message { time, serial, pairs: ps } => format!("message {time} serial {serial}{}", pairs(ps)),
+        Frame::Tick { time } => format!("tick {time}"),
+        Frame::Register { time, number, k, terms } => format!("register {time} query {number} k {k}{}", pairs(terms)),
+        Frame::Drop { time, number } => format!("drop {time} query {number}"),
+    }
+}
