@@ -38,27 +38,27 @@ holds log r l (handed {s = s} {s′ = s′} {s″ = s″} {bytes = bytes} {more 
     let h = holds (after 0 log (callOf s bytes)) (right .holds) (p .long ∙ l) rest in
     (subst (λ (cs : List Call). Represents (replay 0 (after 0 log (callOf s bytes)) cs) (words s″)) (calls-same s s′ more (p .long)) (h .0), h .1)
 
-module _ (N T : ℕ) (s₀ s s′ : List ℕ) (frames : List (List ℕ)) (n : ℕ) (start : StartPost N T s₀ n s) (ok : n ≡ 0) where
+module _ (N T : ℕ) (s₀ s : List ℕ) (n : ℕ) (start : StartPost N T s₀ n s) (ok : n ≡ 0) where
   -- the memory that the accepted start left
-  begun : Represents (fresh N T) (words s)
+  pub begun : Represents (fresh N T) (words s)
   begun = subst (λ (x : List ℕ). Represents (fresh N T) (words x)) (sym (start .started ok)) (started N T (length s₀) (sym (start .number) ∙ ok))
 
-  long : length s ≡ stateLength
-  long = ap length (start .started ok) ∙ fresh-length N T
+  pub begun-long : length s ≡ stateLength
+  begun-long = ap length (start .started ok) ∙ fresh-length N T
 
   -- DEMAND 3
-  pub demand3 : Frames s frames s′ → Demand3 N T s frames s′
-  demand3 handed-all =
-      let h = holds (fresh N T) begun long handed-all in
+  pub demand3 : {s′ : List ℕ} {frames : List (List ℕ)} → Frames s frames s′ → Demand3 N T s frames s′
+  demand3 {s′} {frames} handed-all =
+      let h = holds (fresh N T) begun begun-long handed-all in
       record {
         settled = all-settled (logOf N T s frames) (words s′) (h .0);
         readings = λ q r p.
             let t = p .right (logOf N T s frames) (h .0) (h .1) in
             rw (← (h .1)) (t .0, t .1);
         last = λ first bytes r s₁ e before p.
-            let b = holds (fresh N T) begun long before in
+            let b = holds (fresh N T) begun begun-long before in
             let f : FrameRight (logOf N T s first) s₁ bytes r s′ = p .right (logOf N T s first) (b .0) (b .1) in
             subst (λ (c : Call). Answered 0 (logOf N T s first) (keeping (words s₁)) c (replyOf r) (keeping (words s′)))
-            (call-same s s₁ bytes (b .1 ∙ sym long))
+            (call-same s s₁ bytes (b .1 ∙ sym begun-long))
             (record { reply = f .reply; unmarked = λ q l u. f .untouched q l u .1 });
       }

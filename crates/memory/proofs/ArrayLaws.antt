@@ -14,7 +14,7 @@ use Rattle.memory.proofs.WordLaws.{words-length, put-word, put-length}
 use Rattle.memory.proofs.KeepsLaws.{keeps-refl, keeps-wider, keeps-more}
 
 -- one element more of y is copied to x
-copy-more : (x y : List ℕ) (n : ℕ) → n < length x → n < length y → take n x ≡ take n y → take (n + 1) (set x n (getD y n 0)) ≡ take (n + 1) y
+pub copy-more : (x y : List ℕ) (n : ℕ) → n < length x → n < length y → take n x ≡ take n y → take (n + 1) (set x n (getD y n 0)) ≡ take (n + 1) y
 copy-more x y n hx hy e = rw (add-one, take-suc-set x n (getD y n 0) hx, take-suc y n 0 hy, e) refl
 
 -- n of the m words of s from index i on stand in a

@@ -1,0 +1,165 @@
+-- Laws of the answers to a frame and to a list reading: what a host hears of the words that were written. Assumes nothing.
+use Prim.Native.Nat.{ℕ, zero, suc, _+_, _/_, _%_, _≤_, _<_}
+use native.Mathlib.Omega.{arith}
+use mathlib.Core.Path.{_≡_, refl, sym, ap, _∙_, subst}
+use mathlib.Core.Logic.{inl}
+use mathlib.Core.List.{List, [], _∷_, _++_, append-assoc}
+use mir.Syntax.{w32}
+use mir.Val.{Fits}
+use lib.ListN.{length, getD, set, take, drop, replicate, length-append, length-drop, take-append-drop, length-set}
+use lib.Seq.{take-all, take-at, drop-at, getD-drop, getD-set-same, getD-set-other, ext-getD}
+use borrow.Author.Tests.{ne-eqb}
+use Rattle.memory.specs.Words.{word, words, putWord}
+use Rattle.memory.specs.Keeps.{Keeps, Stored}
+use Rattle.memory.proofs.WordLaws.{put-word, put-length, words-length}
+use Rattle.memory.proofs.KeepsLaws.{keeps-trans, keeps-wider, keeps-part, put-keeps}
+use Rattle.rank.specs.Listing.{listed, linesOf, Tidy}
+use Rattle.engine.specs.declared.Reply.{Reply}
+use Rattle.engine.specs.declared.Listing.{Listing}
+use Rattle.engine.specs.Post.{FramePost, ListPost}
+use Rattle.fennelrake.specs.Entry.{frameAnswer, listAnswer, Output, heardReply, heardRanked, noEntry, heardListing, FrameEntry, ListEntry}
+
+output-same : (written number : ℕ) (a : List ℕ) → Output written number a a
+output-same written number a = record { long = refl; past = refl; refused = λ _. refl }
+
+-- ---- frame
+
+pub frame-short : {s bytes a : List ℕ} → length a < frameAnswer → FrameEntry s bytes a 12 s a
+frame-short {a = a} h = record { short = λ _. (refl, refl); enough = λ k. absurd (omega arith); output = output-same frameAnswer 12 a }
+
+pub frame-refused : {s bytes a s′ : List ℕ} {r : Reply} → frameAnswer ≤ length a → (r .number ≡ 0 → ⊥) → FramePost s bytes r s′ → FrameEntry s bytes a (r .number) s′ a
+frame-refused {s} {bytes} {a} {s′} {r} h nz p = record {
+  short = λ k. absurd (omega arith);
+  enough = λ _. subst (λ (x : Reply). FramePost s bytes x s′) same p;
+  output = output-same frameAnswer (r .number) a;
+}
+  where
+    same : r ≡ heardReply (r .number) a
+    same = rw (ne-eqb (r .number) 0 nz) (λ i. record { number = r .number; marks = p .unchanged nz .1 i; departures = p .unchanged nz .2 i })
+
+-- marks and departures are written
+module _ (a a₁ a₂ : List ℕ) (r : Reply) (h : frameAnswer ≤ length a) (fm : Fits w32 (r .marks)) (fd : Fits w32 (r .departures))
+    (e₁ : a₁ ≡ putWord a 0 (r .marks)) (e₂ : a₂ ≡ putWord a₁ 1 (r .departures)) where
+  put-two : words a₂ ≡ set (set (words a) 0 (r .marks)) 1 (r .departures)
+  put-two =
+      rw (e₂, e₁)
+      (put-word (putWord a 0 (r .marks)) 1 (r .departures) (omega (arith, put-length a 0 (r .marks))) (fd .fits)
+      ∙ ap (λ (w : List ℕ). set w 1 (r .departures)) (put-word a 0 (r .marks) (omega arith) (fm .fits)))
+
+  first-word : getD (words a₂) 0 0 ≡ r .marks
+  first-word =
+      let l = words-length a in
+      rw put-two (getD-set-other (set (words a) 0 (r .marks)) 1 0 (r .departures) 0 (omega arith) ∙ getD-set-same (words a) 0 (r .marks) 0 (omega arith))
+
+  second-word : getD (words a₂) 1 0 ≡ r .departures
+  second-word =
+      let l = words-length a in
+      rw put-two (getD-set-same (set (words a) 0 (r .marks)) 1 (r .departures) 0 (omega (arith, length-set (words a) 0 (r .marks))))
+
+  two-keep : Keeps 0 frameAnswer a a₂
+  two-keep =
+      rw (e₂, e₁)
+      (keeps-trans (keeps-wider (omega arith) (omega arith) (put-keeps a 0 (r .marks)))
+      (keeps-wider (omega arith) (omega arith) (put-keeps (putWord a 0 (r .marks)) 1 (r .departures))))
+
+  two-past : drop frameAnswer a₂ ≡ drop frameAnswer a
+  two-past =
+      ext-getD 0 (drop frameAnswer a₂) (drop frameAnswer a) (simp length-drop (omega (arith, two-keep .long)))
+      (λ i k. simp getD-drop (two-keep .above (frameAnswer + i) (omega arith)))
+
+  pub frame-accepted : {s bytes s′ : List ℕ} → r .number ≡ 0 → FramePost s bytes r s′ → FrameEntry s bytes a (r .number) s′ a₂
+  frame-accepted {s} {bytes} {s′} z p =
+      rw z
+      (record {
+        short = λ k. absurd (omega arith);
+        enough = λ _. subst (λ (x : Reply). FramePost s bytes x s′) same p;
+        output = record { long = two-keep .long; past = two-past; refused = λ nz. absurd (nz refl) };
+      })
+    where
+      same : r ≡ heardReply 0 a₂
+      same = λ i. record { number = z i; marks = sym first-word i; departures = sym second-word i }
+
+-- ---- list
+
+pub list-short : {s a : List ℕ} {n : ℕ} → length a < listAnswer → ListEntry s n a 12 a
+list-short {a = a} h = record { short = λ _. refl; enough = λ k. absurd (omega arith); output = output-same listAnswer 12 a }
+
+zeros : (n i : ℕ) → getD {A = ℕ} (replicate n 0) i 0 ≡ 0
+zeros zero i = refl
+zeros (suc n) zero = refl
+zeros (suc n) (suc i) = zeros n i
+
+none-tidy : Tidy noEntry
+none-tidy = record { serials = λ i _. zeros 16 i; scores = λ i _. zeros 16 i }
+
+none-listed : linesOf noEntry ≡ []
+unfolding listed
+none-listed = refl
+
+pub list-refused : {s a : List ℕ} {n : ℕ} {r : Listing} → listAnswer ≤ length a → (r .number ≡ 0 → ⊥) → ListPost s n r → ListEntry s n a (r .number) a
+list-refused {s} {a} {n} {r} h nz p = record {
+  short = λ k. absurd (omega arith);
+  enough = λ _. rw (ne-eqb (r .number) 0 nz) nothing;
+  output = output-same listAnswer (r .number) a;
+}
+  where
+    nothing : ListPost s n (record { number = r .number; list = noEntry })
+    nothing = record {
+      not-lent = p .not-lent;
+      no-number = p .no-number;
+      most = omega arith;
+      refused = λ _. (none-listed, none-tidy);
+      right = λ log is l. let t = p .right log is l in (t .0, none-listed ∙ sym (p .refused nz .0) ∙ t .1, none-tidy);
+    }
+
+-- the words of bytes that end with a word, and of what follows
+words-append : (s t : List ℕ) → length s % 4 ≡ 0 → words (s ++ t) ≡ words s ++ words t
+unfolding words
+words-append [] t h = refl
+words-append (a ∷ []) t h = absurd (omega arith)
+words-append (a ∷ b ∷ []) t h = absurd (omega arith)
+words-append (a ∷ b ∷ c ∷ []) t h = absurd (omega arith)
+words-append (a ∷ b ∷ c ∷ d ∷ s) t h = ap (λ (w : List ℕ). word a b c d ∷ w) (words-append s t (omega arith))
+
+-- 33 words are the first, sixteen and sixteen
+in-three : (w : List ℕ) → length w ≡ 33 → w ≡ getD w 0 0 ∷ (take 16 (drop 1 w) ++ take 16 (drop 17 w))
+in-three [] h = absurd (omega arith)
+in-three (x ∷ w) h = rw (take-all 16 (drop 16 w) (simp length-drop (omega arith)), take-append-drop 16 w)
+
+-- the number of entries, the serials and the scores are written
+pub list-words : (a : List ℕ) {a₁ w₂ w₃ serials scores : List ℕ} {count : ℕ} → length a ≡ listAnswer → Fits w32 count → a₁ ≡ putWord a 0 count
+    → Stored 1 16 serials (words a₁) w₂ → Stored 17 16 scores w₂ w₃ → w₃ ≡ count ∷ (serials ++ scores)
+list-words a {a₁} {w₂} {w₃} {serials} {scores} {count} l f e p q =
+    let w₁ : words a₁ ≡ set (words a) 0 count = rw e (put-word a 0 count (omega arith) (f .fits)) in
+    let long : length (words a₁) ≡ 33 = rw w₁ (length-set (words a) 0 count ∙ words-length a ∙ ap (λ (n : ℕ). n / 4) l) in
+    let first : getD w₃ 0 0 ≡ count =
+    q .keeps .below 0 (omega arith) ∙ p .keeps .below 0 (omega arith) ∙ rw w₁ (getD-set-same (words a) 0 count 0 (omega (arith, words-length a))) in
+    let second : take 16 (drop 1 w₃) ≡ serials = keeps-part (q .keeps) 1 16 (inl (omega arith)) ∙ p .reads in
+    in-three w₃ (q .keeps .long ∙ p .keeps .long ∙ long) ∙ rw (first, second, q .reads)
+
+module _ (part a : List ℕ) (r : Listing) (h : listAnswer ≤ length a) (lp : length part ≡ listAnswer) (ls : length (r .list .serials) ≡ 16)
+    (lc : length (r .list .scores) ≡ 16) (e : words part ≡ r .list .count ∷ (r .list .serials ++ r .list .scores)) where
+  heard-ranked : r .list ≡ heardRanked (words (part ++ drop listAnswer a))
+  heard-ranked =
+      let ss : List ℕ = r .list .serials in
+      let cs : List ℕ = r .list .scores in
+      let rest : List ℕ = words (drop listAnswer a) in
+      let first : take 16 ((ss ++ cs) ++ rest) ≡ ss = rw append-assoc (take-at ss (cs ++ rest) 16 ls) in
+      let second : take 16 (drop 16 ((ss ++ cs) ++ rest)) ≡ cs = rw (append-assoc, drop-at ss (cs ++ rest) 16 ls) (take-at cs rest 16 lc) in
+      rw (words-append part (drop listAnswer a) (rw lp), e) (λ i. record { serials = sym first i; scores = sym second i; count = r .list .count })
+
+  pub list-accepted : {s : List ℕ} {n : ℕ} → r .number ≡ 0 → ListPost s n r → ListEntry s n a (r .number) (part ++ drop listAnswer a)
+  list-accepted {s} {n} z p =
+      rw z
+      (record {
+        short = λ k. absurd (omega arith);
+        enough = λ _. subst (λ (x : Listing). ListPost s n x) same p;
+        output = record {
+          long = simp (length-append, length-drop) (omega arith);
+          past = drop-at part (drop listAnswer a) listAnswer lp;
+          refused = λ nz. absurd (nz refl);
+        };
+      })
+    where
+      same : r ≡ heardListing 0 (part ++ drop listAnswer a)
+      same = λ i. record { number = z i; list = heard-ranked i }

@@ -1,0 +1,96 @@
+-- What the bytes lent for an answer change in what the paper says of a call: enough of them nothing, and too few make it a refusal by 12.
+-- Assumes nothing.
+use Prim.Native.Nat.{ℕ, _≤_, _<_}
+use mathlib.Core.Path.{_≡_, ap}
+use mathlib.Core.Bool.{Bool, false, cond, and-false}
+use mathlib.Core.List.{List, []}
+use lib.Dec.{eqb}
+use borrow.Author.Tests.{le-leb, lt-leb}
+use Rattle.paper.specs.Frame.{shape}
+use Rattle.paper.specs.Rank.{Line}
+use Rattle.paper.specs.Log.{Log, Call, stateLength, lent, judgeShape, judge, acceptShape, after, departuresShape, departures, inUse, queryAt, inForceNow, judgeList, listOf, listed}
+use Rattle.paper.specs.Demand3.{Keeping, Reply, marksShape, replyTo, markedShape, markedBy}
+
+module _ (needed state output : ℕ) where
+  lent-enough : needed ≤ output → lent state output needed ≡ lent state 0 0
+  lent-enough h = rw (le-leb needed output h)
+
+  lent-short : output < needed → lent state output needed ≡ false
+  lent-short h = rw (lt-leb needed output h) (and-false (eqb state stateLength))
+
+-- ---- a frame
+
+module _ (needed : ℕ) (log : Log) (c : Call) where
+  -- the same call with nothing to write into
+  abbrev bare : Call
+  bare = record { bytes = c .bytes; state = c .state; output = 0 }
+
+  -- the number of a call that was lent so much or not
+  abbrev judgedBy : Bool → ℕ
+  judgedBy t = cond t (judgeShape log (shape (c .bytes))) 12
+
+  -- the reply to it and the log after it, for its number
+  abbrev replyBy : Keeping → ℕ → Reply
+  replyBy kept n = record {
+    number = n;
+    marks = cond (eqb n 0) (marksShape log kept (shape (c .bytes))) 0;
+    departures = cond (eqb n 0) (departuresShape log (shape (c .bytes))) 0;
+  }
+
+  abbrev afterBy : ℕ → Log
+  afterBy n = cond (eqb n 0) (acceptShape log (shape (c .bytes))) log
+
+  module _ (h : needed ≤ c .output) where
+    judge-enough : judge needed log c ≡ judge 0 log bare
+    unfolding judge
+    judge-enough = ap judgedBy (lent-enough needed (c .state) (c .output) h)
+
+    pub after-enough : after needed log c ≡ after 0 log bare
+    unfolding after
+    after-enough = ap afterBy judge-enough
+
+    pub reply-enough : (kept : Keeping) → replyTo needed log kept c ≡ replyTo 0 log kept bare
+    unfolding replyTo departures
+    reply-enough kept = ap (replyBy kept) judge-enough
+
+    pub marked-enough : (kept : Keeping) (q : ℕ) → markedBy needed log kept c q ≡ markedBy 0 log kept bare q
+    unfolding markedBy
+    marked-enough kept q = ap (λ (n : ℕ). cond (eqb n 0) (markedShape log kept (shape (c .bytes)) q) false) judge-enough
+
+  module _ (h : c .output < needed) where
+    judge-short : judge needed log c ≡ 12
+    unfolding judge
+    judge-short = ap judgedBy (lent-short needed (c .state) (c .output) h)
+
+    pub after-short : after needed log c ≡ log
+    unfolding after
+    after-short = ap afterBy judge-short
+
+    pub reply-short : (kept : Keeping) → replyTo needed log kept c ≡ record { number = 12; marks = 0; departures = 0 }
+    unfolding replyTo departures
+    reply-short kept = ap (replyBy kept) judge-short
+
+-- ---- a list reading
+
+module _ (needed : ℕ) (log : Log) (state output n : ℕ) where
+  abbrev listBy : Bool → ℕ
+  listBy t = cond t (cond (inUse (queryAt log n)) 0 10) 12
+
+  abbrev linesBy : ℕ → List Line
+  linesBy r = cond (eqb r 0) (listOf (inForceNow log) (queryAt log n)) []
+
+  pub list-enough : needed ≤ output → judgeList needed log state output n ≡ judgeList 0 log state 0 n
+  unfolding judgeList
+  list-enough h = ap listBy (lent-enough needed state output h)
+
+  pub lines-enough : needed ≤ output → listed needed log state output n ≡ listed 0 log state 0 n
+  unfolding listed
+  lines-enough h = ap linesBy (list-enough h)
+
+  pub list-short : output < needed → judgeList needed log state output n ≡ 12
+  unfolding judgeList
+  list-short h = ap listBy (lent-short needed state output h)
+
+  pub lines-short : output < needed → listed needed log state output n ≡ []
+  unfolding listed
+  lines-short h = ap linesBy (list-short h)

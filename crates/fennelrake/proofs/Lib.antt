@@ -1,0 +1,4 @@
+pub mod AnswerLaws
+pub mod TermLaws
+pub mod LentLaws
+pub mod Demand3

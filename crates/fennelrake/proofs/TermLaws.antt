@@ -1,0 +1,140 @@
+-- Laws of the writer's entry: terms of two bytes each, no more than sixteen of them, and number and length in one number. Assumes nothing.
+use Prim.Native.Nat.{ℕ, zero, suc, _+_, _-_, _*_, _/_, _%_, _≤_, _<_}
+use native.Mathlib.Nat.{not-suc-le-zero}
+use native.Mathlib.Numerals.{towards-suc}
+use native.Mathlib.Omega.{arith}
+use mathlib.Core.Path.{_≡_, refl, sym, ap, _∙_, subst}
+use mathlib.Core.Bool.{Bool, true, false, cond, and-false}
+use mathlib.Core.List.{List, [], _∷_}
+use lib.ListN.{length, getD, set, take, length-set, length-take}
+use lib.Seq.{take-all}
+use lib.Dec.{eqb, leb}
+use borrow.Author.Tests.{leb-true, leb-false, le-leb, lt-leb}
+use Rattle.wire.specs.Field.{total}
+use Rattle.paper.specs.Frame.{Frame, Pair, Shape, Valid, encode, messageHead, tickHead, registerHead, unregisterHead, countWidth, weightWidth}
+use Rattle.paper.specs.Frame.Frame.{message, tick, register, unregister}
+use Rattle.paper.specs.Frame.Shape.{refused, accepted}
+use Rattle.paper.specs.Write.{Fields, side-by-side, fromFields, bytesOf}
+use Rattle.paper.proofs.FrameLaws.{encode-length}
+use Rattle.paper.proofs.WriteLaws.{fields-valid}
+use Rattle.memory.proofs.ArrayLaws.{copy-more}
+use Rattle.frame.specs.declared.Written.{Written}
+use Rattle.frame.specs.Write.{fields, WritePost}
+use Rattle.fennelrake.specs.Entry.{termsOf, heardWriting}
+
+-- ---- terms of two bytes
+
+pub length-terms : (s : List ℕ) → length (termsOf s) ≡ length s / 2
+unfolding termsOf
+length-terms [] = refl
+length-terms (a ∷ []) = refl
+length-terms (a ∷ b ∷ s) = let ih = length-terms s in omega arith
+
+two : (i : ℕ) → 2 * suc i ≡ suc (suc (2 * i))
+two i = omega arith
+
+get-term : (s : List ℕ) (i : ℕ) → 2 * i + 2 ≤ length s → getD (termsOf s) i 0 ≡ getD s (2 * i) 0 * 256 + getD s (2 * i + 1) 0
+unfolding termsOf
+get-term [] i h = absurd (omega arith)
+get-term (a ∷ []) i h = absurd (omega arith)
+get-term (a ∷ b ∷ s) zero h = refl
+get-term (a ∷ b ∷ s) (suc i) h = rw two (simp towards-suc (simp towards-suc at (get-term s i (omega arith))))
+
+-- i of the terms stand in a
+pub record Decoding (count i : ℕ) (bytes a : List ℕ) : Type 0 where
+  pub bound : i ≤ count
+  pub wide : length a ≡ 16
+  pub same : take i a ≡ take i (termsOf bytes)
+
+pub decoding-none : {count i : ℕ} {bytes a : List ℕ} → i ≡ 0 → length a ≡ 16 → Decoding count i bytes a
+decoding-none z l = rw z (record { bound = omega arith; wide = l; same = refl })
+
+pub decoding-more : {count i v : ℕ} {bytes a : List ℕ} → count ≤ 16 → 2 * count ≤ length bytes → i < count
+    → v ≡ getD bytes (2 * i) 0 * 256 + getD bytes (2 * i + 1) 0 → Decoding count i bytes a → Decoding count (i + 1) bytes (set a i v)
+decoding-more {count} {i} {v} {bytes} {a} m h k e p = record {
+  bound = omega arith;
+  wide = length-set a i v ∙ p .wide;
+  same =
+      let l = length-terms bytes in
+      rw (e ∙ sym (get-term bytes i (omega arith))) (copy-more a (termsOf bytes) i (omega arith) (omega arith) (p .same));
+}
+
+pub decoding-all : {count i : ℕ} {bytes a : List ℕ} → count ≤ i → Decoding count i bytes a → take count a ≡ take count (termsOf bytes)
+decoding-all {count} {i} {bytes} {a} h p = let e : i ≡ count = omega arith in rw e at (p .same)
+
+-- ---- later terms are never looked at
+
+beside-cut : (n m : ℕ) (ts us : List ℕ) → n ≤ m → side-by-side n (take m ts) us ≡ side-by-side n ts us
+unfolding side-by-side
+beside-cut zero m ts us h = refl
+beside-cut (suc n) zero ts us h = absurd (not-suc-le-zero h)
+beside-cut (suc n) (suc m) [] us h = refl
+beside-cut (suc n) (suc m) (t ∷ ts) [] h = refl
+beside-cut (suc n) (suc m) (t ∷ ts) (u ∷ us) h = ap (λ (ps : List Pair). record { term = t; amount = u } ∷ ps) (beside-cut n m ts us (omega arith))
+
+long-cut : (n m : ℕ) (ts : List ℕ) → n ≤ m → leb n (length (take m ts)) ≡ leb n (length ts)
+long-cut n m ts h = go (leb n (length ts)) refl
+  where
+    go : (t : Bool) → leb n (length ts) ≡ t → leb n (length (take m ts)) ≡ t
+    go true e = le-leb n (length (take m ts)) (omega (arith, length-take m ts, leb-true n (length ts) e))
+    go false e = lt-leb n (length (take m ts)) (omega (arith, length-take m ts, leb-false n (length ts) e))
+
+-- the fields with these terms for their own
+abbrev pub withTerms : Fields → List ℕ → Fields
+withTerms x ts = fields (x .kind) (x .time) (x .serial) (x .number) (x .k) (x .pairs) ts (x .amounts)
+
+module _ (x : Fields) where
+  few-cut : x .pairs ≤ 16 → fromFields (withTerms x (take 16 (x .terms))) ≡ fromFields x
+  unfolding fromFields
+  few-cut h = rw (long-cut (x .pairs) 16 (x .terms) h, beside-cut (x .pairs) 16 (x .terms) (x .amounts) h)
+
+  many-cut : 16 < x .pairs → fromFields (withTerms x (take 16 (x .terms))) ≡ fromFields x
+  unfolding fromFields
+  many-cut h = rw (lt-leb (x .pairs) 16 h, lt-leb (x .pairs) 8 (omega arith)) (simp and-false)
+
+  fields-cut : fromFields (withTerms x (take 16 (x .terms))) ≡ fromFields x
+  fields-cut = go (leb (x .pairs) 16) refl
+    where
+      go : (t : Bool) → leb (x .pairs) 16 ≡ t → fromFields (withTerms x (take 16 (x .terms))) ≡ fromFields x
+      go true e = few-cut (leb-true (x .pairs) 16 e)
+      go false e = many-cut (leb-false (x .pairs) 16 e)
+
+-- as many terms as there are, at most sixteen
+take-cut : (count : ℕ) (ts : List ℕ) → count ≤ 16 → (count < 16 → count ≡ length ts) → take count ts ≡ take 16 ts
+take-cut count ts h all = go (leb 16 count) refl
+  where
+    go : (t : Bool) → leb 16 count ≡ t → take count ts ≡ take 16 ts
+    go true e = let s : count ≡ 16 = omega (arith, leb-true 16 count e) in rw s
+    go false e =
+        let s = all (leb-false 16 count e) in
+        take-all count ts (omega arith) ∙ sym (take-all 16 ts (omega arith))
+
+-- ---- number and length
+
+encode-most : (f : Frame) → Valid f → length (encode f) ≤ 44
+unfolding encode total
+encode-most (message t s ps) v = omega (arith, encode-length messageHead countWidth (1 ∷ t ∷ s ∷ (length ps - 1) ∷ []) ps, v .pairs .at-most)
+encode-most (tick t) v = omega (arith, encode-length tickHead 0 (2 ∷ t ∷ []) [])
+encode-most (register t n k ps) v =
+    omega (arith, encode-length registerHead weightWidth (3 ∷ t ∷ n ∷ (k - 1) ∷ (length ps - 1) ∷ []) ps, v .terms .at-most)
+encode-most (unregister t n) v = omega (arith, encode-length unregisterHead 0 (4 ∷ t ∷ n ∷ []) [])
+
+-- no frame has more than 44 bytes
+pub written-most : (x : Fields) {s t : List ℕ} {w : Written} → WritePost (fromFields x) s t w → w .length ≤ 44
+written-most x {w = w} p = go (fromFields x) refl (eqb (w .number) 0) (p .size)
+  where
+    go : (sh : Shape) → fromFields x ≡ sh → (b : Bool) → w .length ≡ cond b (length (bytesOf sh)) 0 → w .length ≤ 44
+    go sh e false l = omega arith
+    go (refused n) e true l = omega arith
+    go (accepted f) e true l = let m = encode-most f (fields-valid x f e) in omega arith
+
+pub write-heard : (x : Fields) (count : ℕ) {first s t : List ℕ} {w : Written} → first ≡ take count (x .terms) → count ≤ 16 → (count < 16 → count ≡ length (x .terms))
+    → WritePost (fromFields (withTerms x first)) s t w → WritePost (fromFields x) s t (heardWriting (w .number * 4294967296 + w .length))
+write-heard x count {first} {s} {t} {w} e h all p =
+    let r : ℕ = w .number * 4294967296 + w .length in
+    let m : w .length ≤ 44 = written-most (withTerms x first) p in
+    let n : w .number ≡ r / 4294967296 = omega arith in
+    let l : w .length ≡ r % 4294967296 = omega arith in
+    let same : w ≡ heardWriting r = λ i. record { number = n i; length = l i } in
+    let cut : fromFields (withTerms x first) ≡ fromFields x = rw (e, take-cut count (x .terms) h all) (fields-cut x) in
+    subst (λ (v : Written). WritePost (fromFields x) s t v) same (subst (λ (sh : Shape). WritePost sh s t w) cut p)

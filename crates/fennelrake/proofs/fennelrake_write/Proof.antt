@@ -1,0 +1,49 @@
+-- `fennelrake_write` meets its contract. Assumes nothing.
+use native.Mathlib.Omega.{arith}
+use mathlib.Core.Path.{_≡_, sym}
+use lib.ListN.{length, take}
+use lib.Seq.{length-take-le}
+use denote.Ref.{now}
+use borrow.Author.Needs.{needs}
+use Rattle.paper.specs.Write.{Fields}
+use Rattle.frame.specs.Write.{fields}
+use Rattle.fennelrake.specs.Entry.{termsOf}
+use Rattle.fennelrake.proofs.TermLaws.{length-terms, withTerms, written-most, write-heard}
+use Rattle.fennelrake.proofs.fennelrake_write.Statement.{statement}
+use Rattle.fennelrake.proofs.fennelrake_write.Tie as tie
+
+-- the fields that are handed over
+abbrev handed : tie.Start → Fields
+handed c =
+    fields (c .args .kind) (c .args .time) (c .args .serial) (c .args .number) (c .args .k) (c .args .pairs) (termsOf (now (c .args .terms)))
+    (now (c .args .amounts))
+
+slice-aggregate-write : tie.Need-slice-aggregate-write
+slice-aggregate-write c =
+    let long : length (c .before .before .first-terms .result) ≡ 16 = search needs in
+    sym (length-take-le (c .before .before .before .at-most-16 .result) (c .before .before .first-terms .result) (omega arith))
+
+add-result : tie.Need-add-result
+add-result c =
+    let most = written-most (withTerms (handed (c .before .before .before .before .before .before .before .before .before .before .before)) (take (c .before .before .before .before .before .before .before .at-most-16 .result) (c .before .before .before .before .before .before .first-terms .result))) (c .before .before .before .write .ensures) in
+    record { fits = omega arith }
+
+returns : tie.Need-returns
+returns c =
+    write-heard (handed (c .before .before .before .before .before .before .before .before .before .before .before)) (c .before .before .before .before .before .before .before .at-most-16 .result) (c .before .before .before .before .before .before .first-terms .ensures) (omega arith)
+    (λ h. omega (arith, length-terms (now (c .before .before .before .before .before .before .before .before .before .before .before .args .terms)), c .before .before .before .before .before .before .before .at-most-16 .ensures .2 h)) (c .before .before .before .write .ensures)
+
+pub fennelrake-write-spec : {M : Type 1} → statement M
+fennelrake-write-spec =
+    tie.close
+    (tie.spec
+    (λ c κs. search needs)
+    (λ c κs. search needs)
+    (λ c. search needs)
+    slice-aggregate-write
+    (λ c κs. search needs)
+    (λ c. search needs)
+    (λ c. search needs)
+    add-result
+    (λ c. search needs)
+    returns)

@@ -1,0 +1,39 @@
+-- Demand 3 at the C boundary: whatever frames a host hands one after another to a fresh engine, with whatever bytes lent for the answer, what is
+-- kept and what the host hears is what the paper log says. The theorem is in proofs/Demand3.antt. Assumes nothing.
+use Prim.Native.Nat.{ℕ}
+use mathlib.Core.Path.{_≡_}
+use mathlib.Core.List.{List, [], _∷_, _++_}
+use lib.ListN.{length}
+use Rattle.paper.specs.Log.{Log, Call, stateLength, fresh, replay, judgeList, listed}
+use Rattle.paper.specs.Demand3.{AllSettled, Answered}
+use Rattle.memory.specs.Words.{words}
+use Rattle.rank.specs.Listing.{linesOf}
+use Rattle.engine.specs.Represents.{keeping}
+use Rattle.engine.specs.Post.{replyOf}
+use Rattle.fennelrake.specs.Entry.{frameAnswer, listAnswer, heardReply, heardListing, FrameEntry, ListEntry}
+
+-- what the paper log is fed: the bytes and the lengths lent
+abbrev pub callOf : (s bytes a : List ℕ) → Call
+callOf s bytes a = record { bytes = bytes; state = length s; output = length a }
+
+-- frames handed one after another, each on the memory as the one before left it and with an answer of its own, chained by the promise of
+-- `fennelrake_frame`
+pub data Calls : List ℕ → List Call → List ℕ → Type 0 where
+  none-left : {s : List ℕ} → Calls s [] s
+  handed : {s s′ s″ bytes a a′ : List ℕ} {r : ℕ} {more : List Call} → FrameEntry s bytes a r s′ a′ → Calls s′ more s″ → Calls s (callOf s bytes a ∷ more) s″
+
+abbrev pub logOf : ℕ → ℕ → List Call → Log
+logOf N T calls = replay frameAnswer (fresh N T) calls
+
+pub record Demand3 (N T : ℕ) (s : List ℕ) (calls : List Call) (s′ : List ℕ) : Type 0 where
+  -- "its kept list .. while it is short every threshold is 0", for each registered query
+  pub settled : AllSettled (logOf N T calls) (keeping (words s′))
+  -- "as a reading returns it": what the host hears, whatever it lends
+  pub readings : (n : ℕ) (a a′ : List ℕ) (r : ℕ) → ListEntry s′ n a r a′
+      → (r ≡ judgeList listAnswer (logOf N T calls) stateLength (length a) n)
+      × (linesOf (heardListing r a′ .list) ≡ listed listAnswer (logOf N T calls) stateLength (length a) n)
+  -- "A query registered before and after the last frame is marked by it exactly when ..; unmarked, its thresholds, candidates and list are as they
+  -- were"
+  pub last : (first : List Call) (bytes a a′ s₁ : List ℕ) (r : ℕ) → calls ≡ first ++ (callOf s₁ bytes a ∷ []) → Calls s first s₁
+      → FrameEntry s₁ bytes a r s′ a′
+      → Answered frameAnswer (logOf N T first) (keeping (words s₁)) (callOf s₁ bytes a) (replyOf (heardReply r a′)) (keeping (words s′))

@@ -1,0 +1,133 @@
+// The entries for hosts written in C: numbers and lent byte slices only.
+ghost use mathlib.Core.Path.{_≡_};
+ghost use mathlib.Core.List.{_∷_, _++_};
+ghost use Prim.Native.Nat.{_+_, _*_, _≤_, _<_};
+ghost use lib.ListN.{length, take};
+ghost use Rattle.paper.specs.Write.{fromFields};
+ghost use Rattle.memory.specs.Words.{words};
+ghost use Rattle.frame.specs.Write.{fields, WritePost};
+ghost use Rattle.engine.specs.Post.{StartPost};
+ghost use Rattle.fennelrake.specs.Entry.{FrameEntry, ListEntry, termsOf, heardWriting};
+
+// How many bytes the answers to a frame and to a list reading take.
+const FRAME_ANSWER: usize = 8;
+
+const LIST_ANSWER: usize = 132;
+
+#[no_mangle]
+pub extern "C" fn fennelrake_start(state: &mut [u8], capacity: u32, life: u32) -> u32
+    ensures { λ r. ⌜ StartPost capacity life (now (state .entry)) r (now (state .exit)) ⌝ }
+{
+    engine::start(state, capacity, life)
+}
+
+// The answer: marks and departures, four bytes each.
+#[no_mangle]
+pub extern "C" fn fennelrake_frame(state: &mut [u8], bytes: &[u8], answer: &mut [u8]) -> u32
+    ensures { λ r. ⌜ FrameEntry (now (state .entry)) (now (bytes .entry)) (now (answer .entry)) r (now (state .exit)) (now (answer .exit)) ⌝ }
+{
+    if answer.len() < FRAME_ANSWER {
+        return 12;
+    }
+    let reply = engine::frame(state, bytes);
+    if reply.number != 0 {
+        return reply.number;
+    }
+    memory::put(answer, 0, reply.marks);
+    memory::put(answer, 1, reply.departures);
+    reply.number
+}
+
+fn put_list(answer: &mut [u8], count: u32, serials: [u32; 16], scores: [u32; 16])
+    requires { ⌜ length (now answer) ≡ 132 ⌝ }
+    ensures { λ _. ⌜ words (now (answer .exit)) ≡ count ∷ (serials ++ scores) ⌝ }
+{
+    memory::put(answer, 0, count);
+    memory::store16(answer, 1, serials);
+    memory::store16(answer, 17, scores);
+}
+
+// The answer: the number of entries, sixteen serials and sixteen scores, four bytes each.
+#[no_mangle]
+pub extern "C" fn fennelrake_list(state: &[u8], number: u32, answer: &mut [u8]) -> u32
+    ensures { λ r. ⌜ ListEntry (now (state .entry)) number (now (answer .entry)) r (now (answer .exit)) ⌝ }
+{
+    if answer.len() < LIST_ANSWER {
+        return 12;
+    }
+    let listing = engine::list(state, number);
+    if listing.number != 0 {
+        return listing.number;
+    }
+    let list = listing.list;
+    let serials = list.serials;
+    let scores = list.scores;
+    put_list(
+        &mut answer[..LIST_ANSWER],
+        list.count as u32,
+        serials,
+        scores,
+    );
+    listing.number
+}
+
+fn wide(x: u8) -> u16
+    ensures { λ r. ⌜ (r ≡ x) × (r < 256) ⌝ }
+{
+    x as u16
+}
+
+// The first terms, two bytes each.
+fn first_terms(bytes: &[u8], count: usize) -> [u16; 16]
+    requires { ⌜ (count ≤ 16) × (2 * count ≤ length (now bytes)) ⌝ }
+    ensures { λ r. ⌜ take count r ≡ take count (termsOf (now (bytes .entry))) ⌝ }
+{
+    let mut terms = [0u16; 16];
+    let mut i: usize = 0;
+    while i < count {
+        let at = 2 * i;
+        let high = wide(bytes[at]);
+        let low = wide(bytes[at + 1]);
+        terms[i] = high * 256 + low;
+        i += 1;
+    }
+    terms
+}
+
+fn at_most_16(n: usize) -> usize
+    ensures { λ r. ⌜ (r ≤ 16) × (r ≤ n) × (r < 16 → r ≡ n) ⌝ }
+{
+    if n < 16 { n } else { 16 }
+}
+
+// The frame with these fields, into out: number times 2 to the 32, and length. Terms are two bytes each, amounts one. No frame has more than
+// sixteen pairs, so later terms are never looked at.
+#[no_mangle]
+pub extern "C" fn fennelrake_write(
+    kind: u32,
+    time: u32,
+    serial: u32,
+    number: u32,
+    k: u32,
+    pairs: u32,
+    terms: &[u8],
+    amounts: &[u8],
+    out: &mut [u8],
+) -> u64
+    ensures { λ r. ⌜ WritePost (fromFields (fields kind time serial number k pairs (termsOf (now (terms .entry))) (now (amounts .entry)))) (now (out .entry)) (now (out .exit)) (heardWriting r) ⌝ }
+{
+    let count = at_most_16(terms.len() / 2);
+    let first = first_terms(terms, count);
+    let written = frame::write(
+        out,
+        kind,
+        time,
+        serial,
+        number,
+        k,
+        pairs as usize,
+        &first[..count],
+        amounts,
+    );
+    written.number as u64 * 4294967296 + written.length as u64
+}
