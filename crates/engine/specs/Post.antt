@@ -7,7 +7,7 @@ use lib.ListN.{length, getD, take, drop, replicate}
 use Rattle.paper.specs.Frame.{shape}
 use Rattle.paper.specs.Frame.Shape.{refused}
 use Rattle.paper.specs.Rank.{Line}
-use Rattle.paper.specs.Log.{Log, Call, stateLength, numbers, judgeStart, after, judgeList, listed, posted, judgePostings}
+use Rattle.paper.specs.Log.{Log, Call, stateLength, numbers, judgeStart, after, judgeList, listed}
 use Rattle.paper.specs.Demand3.{replyTo, markedBy}
 use Rattle.paper.specs.Demand3 as Demand3
 use Rattle.memory.specs.Words.{words, putWord}
@@ -15,7 +15,6 @@ use Rattle.rank.specs.Listing.{linesOf, Tidy}
 use Rattle.window.specs.Layout.{recordAt, recordWords}
 use Rattle.engine.specs.declared.Reply.{Reply}
 use Rattle.engine.specs.declared.Listing.{Listing}
-use Rattle.engine.specs.declared.Found.{Found}
 use Rattle.engine.specs.Represents.{Represents, keeping}
 
 -- a call with these bytes on state memory of this length; nothing is written into lent output

@@ -27,11 +27,6 @@ pub struct Listing {
     pub list: Ranked,
 }
 
-pub struct Found {
-    pub number: u32,
-    pub count: u32,
-}
-
 fn refused(number: u32) -> Reply
     ensures { λ r. ⌜ (r .number ≡ number) × (r .marks ≡ 0) × (r .departures ≡ 0) ⌝ }
 {
