@@ -2,9 +2,11 @@
 
 .PHONY: sample test
 
-# Until the session program is there, the sample is the worked passage C10, computed from the definitions as they are proved.
+# The worked passage, written as text, handed to the session program as bytes.
 sample:
-	rt check paper
+	@rt check session >&2
+	@cd tools/passage && cargo build --release --quiet
+	@tools/passage/target/release/passage < samples/c10.txt | target/bin/session
 
 test:
 	bash tests/all

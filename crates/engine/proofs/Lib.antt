@@ -14,3 +14,4 @@ pub mod NumberLaws
 pub mod PostLaws
 pub mod ReadLaws
 pub mod Demand3
+pub mod PostingLaws

@@ -1,5 +1,5 @@
 -- The promises of the engine's calls. `s` is the lent state memory before the call and `s′` after it, in bytes. Assumes nothing.
-use Prim.Native.Nat.{ℕ, _+_, _*_, _≤_, _<_}
+use Prim.Native.Nat.{ℕ, _+_, _*_, _≤_, _<_, _^_}
 use mathlib.Core.Path.{_≡_}
 use mathlib.Core.Bool.{false}
 use mathlib.Core.List.{List, [], _∷_, _++_}
@@ -7,14 +7,16 @@ use lib.ListN.{length, getD, take, drop, replicate}
 use Rattle.paper.specs.Frame.{shape}
 use Rattle.paper.specs.Frame.Shape.{refused}
 use Rattle.paper.specs.Rank.{Line}
-use Rattle.paper.specs.Log.{Log, Call, stateLength, numbers, judgeStart, after, judgeList, listed}
+use Rattle.paper.specs.Log.{Log, Call, stateLength, numbers, judgeStart, after, judgeList, listed, postingLength, posted, judgePostings}
 use Rattle.paper.specs.Demand3.{replyTo, markedBy}
 use Rattle.paper.specs.Demand3 as Demand3
 use Rattle.memory.specs.Words.{words, putWord}
 use Rattle.rank.specs.Listing.{linesOf, Tidy}
 use Rattle.window.specs.Layout.{recordAt, recordWords}
+use Rattle.posting.specs.Lines.{lineBytes}
 use Rattle.engine.specs.declared.Reply.{Reply}
 use Rattle.engine.specs.declared.Listing.{Listing}
+use Rattle.engine.specs.declared.Found.{Found}
 use Rattle.engine.specs.Represents.{Represents, keeping}
 
 -- a call with these bytes on state memory of this length; nothing is written into lent output
@@ -69,3 +71,16 @@ pub record ListPost (s : List ℕ) (n : ℕ) (r : Listing) : Type 0 where
   pub refused : (r .number ≡ 0 → ⊥) → (linesOf (r .list) ≡ []) × Tidy (r .list)
   pub right : (log : Log) → Represents log (words s) → length s ≡ stateLength
       → (r .number ≡ judgeList 0 log (length s) 0 n) × (linesOf (r .list) ≡ listed 0 log (length s) 0 n) × Tidy (r .list)
+
+-- the postings, and then what stood there before: "Output past what a call writes is unchanged."
+abbrev pub postedInto : Log → ℕ → List ℕ → List ℕ
+postedInto log t out = lineBytes (posted log t) ++ drop (postingLength * length (posted log t)) out
+
+-- "A posting reading: state length, 5, then output length; it returns the count and writes each one's serial and impact."
+pub record PostingsPost (s : List ℕ) (t : ℕ) (out : List ℕ) (r : Found) (out′ : List ℕ) : Type 0 where
+  pub long : length out′ ≡ length out
+  pub not-lent : (length s ≡ stateLength → ⊥) → r .number ≡ 12
+  pub no-term : length s ≡ stateLength → 2 ^ 10 ≤ t → r .number ≡ 5
+  pub refused : (r .number ≡ 0 → ⊥) → (out′ ≡ out) × (r .count ≡ 0)
+  pub right : (log : Log) → Represents log (words s) → length s ≡ stateLength
+      → (r .number ≡ judgePostings log (length s) (length out) t) × (r .number ≡ 0 → (r .count ≡ length (posted log t)) × (out′ ≡ postedInto log t out))

@@ -9,7 +9,7 @@ ghost use Rattle.paper.specs.Write.{side-by-side};
 ghost use Rattle.paper.specs.Log.{stateLength, numbers};
 ghost use Rattle.memory.specs.Words.{words};
 ghost use Rattle.window.specs.Layout.{slots};
-ghost use Rattle.engine.specs.Post.{StartPost, FramePost, ListPost};
+ghost use Rattle.engine.specs.Post.{StartPost, FramePost, ListPost, PostingsPost};
 ghost use Rattle.window.specs.Cursor.{Moved};
 ghost use Rattle.engine.specs.Inner.{PutCursor, Passed, Joined, Did, Ticked};
 use frame::Kind;
@@ -25,6 +25,11 @@ pub struct Reply {
 pub struct Listing {
     pub number: u32,
     pub list: Ranked,
+}
+
+pub struct Found {
+    pub number: u32,
+    pub count: u32,
 }
 
 fn refused(number: u32) -> Reply
@@ -336,5 +341,38 @@ pub fn list(state: &[u8], number: u32) -> Listing
     Listing {
         number: 0,
         list: query::load_list(state, q),
+    }
+}
+
+// The postings of a term, into out: serial and impact of each, four bytes each.
+pub fn postings(state: &[u8], term: u32, out: &mut [u8]) -> Found
+    ensures { λ r. ⌜ PostingsPost (now (state .entry)) term (now (out .entry)) r (now (out .exit)) ⌝ }
+{
+    if state.len() != window::STATE {
+        return Found {
+            number: 12,
+            count: 0,
+        };
+    }
+    if 1023 < term {
+        return Found {
+            number: 5,
+            count: 0,
+        };
+    }
+    let cursor = Cursor::load(state);
+    let oldest = cursor.oldest;
+    let count = cursor.count;
+    let found = posting::having(state, oldest, count, term);
+    if out.len() / 8 < found {
+        return Found {
+            number: 12,
+            count: 0,
+        };
+    }
+    posting::write(state, oldest, count, term, out);
+    Found {
+        number: 0,
+        count: found as u32,
     }
 }

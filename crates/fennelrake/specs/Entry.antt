@@ -11,6 +11,7 @@ use Rattle.rank.specs.declared.Ranked.{Ranked}
 use Rattle.frame.specs.declared.Written.{Written}
 use Rattle.engine.specs.declared.Reply.{Reply}
 use Rattle.engine.specs.declared.Listing.{Listing}
+use Rattle.engine.specs.declared.Found.{Found}
 use Rattle.engine.specs.Post.{FramePost, ListPost}
 
 -- how many bytes the answers take: marks and departures; the number of entries, sixteen serials and sixteen scores
@@ -58,6 +59,12 @@ pub record ListEntry (s : List ℕ) (n : ℕ) (a : List ℕ) (r : ℕ) (a′ : L
   pub short : length a < listAnswer → r ≡ 12
   pub enough : listAnswer ≤ length a → ListPost s n (heardListing r a′)
   pub output : Output listAnswer r a a′
+
+-- ---- postings
+
+-- number and count in one number
+abbrev pub heardFound : ℕ → Found
+heardFound r = record { number = r / 4294967296; count = r % 4294967296 }
 
 -- ---- write
 

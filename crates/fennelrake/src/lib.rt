@@ -6,8 +6,8 @@ ghost use lib.ListN.{length, take};
 ghost use Rattle.paper.specs.Write.{fromFields};
 ghost use Rattle.memory.specs.Words.{words};
 ghost use Rattle.frame.specs.Write.{fields, WritePost};
-ghost use Rattle.engine.specs.Post.{StartPost};
-ghost use Rattle.fennelrake.specs.Entry.{FrameEntry, ListEntry, termsOf, heardWriting};
+ghost use Rattle.engine.specs.Post.{StartPost, PostingsPost};
+ghost use Rattle.fennelrake.specs.Entry.{FrameEntry, ListEntry, termsOf, heardFound, heardWriting};
 
 // How many bytes the answers to a frame and to a list reading take.
 const FRAME_ANSWER: usize = 8;
@@ -69,6 +69,15 @@ pub extern "C" fn fennelrake_list(state: &[u8], number: u32, answer: &mut [u8]) 
         scores,
     );
     listing.number
+}
+
+// The postings of a term, into out: serial and impact of each, four bytes each. Number times 2 to the 32, and how many there are.
+#[no_mangle]
+pub extern "C" fn fennelrake_postings(state: &[u8], term: u32, out: &mut [u8]) -> u64
+    ensures { λ r. ⌜ PostingsPost (now (state .entry)) term (now (out .entry)) (heardFound r) (now (out .exit)) ⌝ }
+{
+    let found = engine::postings(state, term, out);
+    found.number as u64 * 4294967296 + found.count as u64
 }
 
 fn wide(x: u8) -> u16
