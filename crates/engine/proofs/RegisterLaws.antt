@@ -24,7 +24,7 @@ use Rattle.memory.specs.Keeps.{Keeps}
 use Rattle.window.specs.Layout.{slots, recordAt, recordWords, slotAt, slotWords, oldestAt, countAt, clockAt}
 use Rattle.window.specs.Slot.{slot, stored, window}
 use Rattle.window.proofs.SlotLaws.{slot-kept, window-kept}
-use Rattle.candidates.specs.Source.{inRing}
+use Rattle.candidates.specs.Flags.{inRing}
 use Rattle.query.specs.Record.{HoldsAt, Holds}
 use Rattle.query.specs.Post.{Registered, Cleared, Over}
 use Rattle.engine.specs.declared.Reply.{Reply}

@@ -25,7 +25,7 @@ use Rattle.window.specs.Slot.{Slot, slot, stored, ring, window}
 use Rattle.window.specs.Cursor.{Moved}
 use Rattle.window.proofs.RingLaws.{ring-length, moved-below, moved-parts, moved-end}
 use Rattle.window.proofs.SlotLaws.{slot-kept, window-kept}
-use Rattle.candidates.specs.Source.{inRing}
+use Rattle.candidates.specs.Flags.{inRing}
 use Rattle.query.specs.Record.{HoldsAt, thresholds}
 use Rattle.query.specs.Post.{Change, arriving}
 use Rattle.engine.specs.declared.Reply.{Reply}

@@ -28,7 +28,7 @@ pub fn take_bits(s: &[u8], at: usize, width: usize) -> u32
 }
 
 // 2 to the k.
-fn pow2(k: usize) -> u32
+pub fn pow2(k: usize) -> u32
     requires { ⌜ k < 32 ⌝ }
     ensures { λ r. ⌜ r ≡ 2 ^ k ⌝ }
 {
