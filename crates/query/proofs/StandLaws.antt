@@ -235,11 +235,11 @@ module _ {w : List ℕ} {q o d o′ newest : ℕ} {r : Query} {hs : List ℕ} {a
           rw (keeps-at (kept .keeps) (listedIn q) (inl (omega arith)), keeps-part (kept .keeps) (scoresIn q) 16 (inl (omega arith))) (holds .no-score);
     }
 
-  pub kept-again : {n : ℕ} → b ≡ true → Updated w q o d o′ n newest true w′
+  pub kept-again : {n : ℕ} {set : List Bool} → b ≡ true → Updated w q o d o′ n newest set true w′
   kept-again e = record {
     keeps = keeps-wider (omega arith) (omega arith) (kept .keeps);
     untouched = λ z. absurd (true≢false z);
-    right = λ s ga sa ca query change counted terms holds. (
+    right = λ s ga sa ca query covers change counted terms holds. (
       sym e ∙ answered query-is thresholds-are arrives reaching change terms holds,
       subst (λ (i : ℕ). Holds w′ q o′ i (sa ++ ca) query) (sym counted) (still-holds change terms holds),
     );

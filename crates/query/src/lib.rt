@@ -9,9 +9,10 @@ ghost use Rattle.paper.specs.Log.{stateLength, numbers};
 ghost use Rattle.paper.specs.Write.{side-by-side};
 ghost use Rattle.memory.specs.Words.{words};
 ghost use Rattle.window.specs.Layout.{slots, recordAt};
+ghost use Rattle.window.specs.Terms.{termLimit};
 ghost use Rattle.rank.specs.Listing.{linesOf};
 ghost use Rattle.query.specs.Record.{Says};
-ghost use Rattle.query.specs.Post.{Clamped, InRange, LoadedQuery, LoadedThresholds, LoadedList, Lifted, secure, StoredKept, Finished, Refilled, SettledFrom, Arriving, Reached, Arrived, NewestLow, Stands, KeptList, Updated, PutQuery, Registered, Cleared};
+ghost use Rattle.query.specs.Post.{Clamped, InRange, LoadedQuery, LoadedThresholds, LoadedList, Lifted, secure, StoredKept, Finished, Refilled, SettledFrom, Arriving, Reached, Arrived, NewestLow, Stands, KeptList, Covers, Shares, Updated, PutQuery, Registered, Cleared};
 use candidates::Query;
 use rank::Ranked;
 
@@ -296,7 +297,43 @@ fn keep_list(state: &mut [u8], q: usize, gone: usize, departed: usize, flags: [u
     memory::store9(state, RECORDS + RECORD * q + FLAGS, rest);
 }
 
+// The terms of the messages that go and come are put into the set.
+pub fn add_moved(state: &[u8], gone: usize, departed: usize, newest: usize, set: &mut [bool])
+    requires { ⌜ (length (now state) ≡ stateLength) × (gone < slots) × (length (now set) ≡ termLimit) ⌝ }
+    ensures { λ _. ⌜ (length (now (set .exit)) ≡ termLimit) × Covers (words (now (state .entry))) gone departed newest (now (set .exit)) ⌝ }
+{
+    let mut j = gone;
+    let mut left = departed;
+    while 0 < left {
+        window::add_terms(state, j, set);
+        j = window::following(j);
+        left -= 1;
+    }
+    if newest < window::SLOTS {
+        window::add_terms(state, newest, set);
+    }
+}
+
+// Whether one of the query's terms is in the set.
+fn shares(state: &[u8], q: usize, set: &[bool]) -> bool
+    requires { ⌜ (length (now state) ≡ stateLength) × (q < numbers) × (length (now set) ≡ termLimit) ⌝ }
+    ensures { λ r. ⌜ Shares (words (now (state .entry))) q (now (set .entry)) r ⌝ }
+{
+    let at = RECORDS + RECORD * q;
+    let n = clamped(memory::get(state, at + 1), 1, 8) as usize;
+    let mut i: usize = 0;
+    while i < n {
+        let term = (memory::get(state, at + PAIRS + i) / 16 % 1024) as usize;
+        if set[term] {
+            return true;
+        }
+        i += 1;
+    }
+    false
+}
+
 // A query is updated where a frame reaches it: `departed` messages from slot `gone` on left, and one arrived in slot `newest` where that is one.
+// `moved` has the terms of all of these: most queries have none of them.
 pub fn update(
     state: &mut [u8],
     q: usize,
@@ -305,11 +342,15 @@ pub fn update(
     first: usize,
     count: usize,
     newest: usize,
+    moved: &[bool],
 ) -> bool
     requires { ⌜ (length (now state) ≡ stateLength) × (q < numbers) × (first < slots) × (count < slots) ⌝ }
-    requires { ⌜ gone < slots ⌝ }
-    ensures { λ r. ⌜ Updated (words (now (state .entry))) q gone departed first count newest r (words (now (state .exit))) ⌝ }
+    requires { ⌜ (gone < slots) × (length (now moved) ≡ termLimit) ⌝ }
+    ensures { λ r. ⌜ Updated (words (now (state .entry))) q gone departed first count newest (now (moved .entry)) r (words (now (state .exit))) ⌝ }
 {
+    if !shares(state, q, moved) {
+        return false;
+    }
     let query = load_query(state, q);
     let thresholds = load_thresholds(state, q);
     let above = newest_exceeds(state, newest, query, thresholds);

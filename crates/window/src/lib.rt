@@ -40,7 +40,8 @@ pub fn following(j: usize) -> usize
     requires { ⌜ j < slots ⌝ }
     ensures { λ r. ⌜ r ≡ next j ⌝ }
 {
-    (j + 1) % SLOTS
+    let next = j + 1;
+    if next < SLOTS { next } else { 0 }
 }
 
 // The time of the message in slot j.
@@ -98,7 +99,7 @@ pub fn has_any(state: &[u8], j: usize, set: &[bool]) -> bool
 // The terms of the message in slot j are put into the set.
 pub fn add_terms(state: &[u8], j: usize, set: &mut [bool])
     requires { ⌜ (length (now state) ≡ stateLength) × (j < slots) × (length (now set) ≡ termLimit) ⌝ }
-    ensures { λ _. ⌜ Added (slot (words (now (state .entry))) j .cells) (now (set .entry)) (now (set .exit)) ⌝ }
+    ensures { λ _. ⌜ (length (now (set .exit)) ≡ termLimit) × Added (slot (words (now (state .entry))) j .cells) (now (set .entry)) (now (set .exit)) ⌝ }
 {
     let at = RING + SLOT * j + 3;
     let size = size_in(state, j);

@@ -41,7 +41,7 @@ returns : tie.Need-returns Inv-loop μ-loop
 returns c =
     let a = c .before .before .before .before .before .args in
     let s = slot-size (a .state .now) (a .j) (omega arith) (omega arith) in
-    record { has = λ i h. c .before .loop .inv .2 i (omega (arith, c .before .before .size-in .ensures)); keeps = c .before .loop .inv .3 }
+    (c .before .loop .inv .1, record { has = λ i h. c .before .loop .inv .2 i (omega (arith, c .before .before .size-in .ensures)); keeps = c .before .loop .inv .3 })
 
 pub add-terms-spec : {M : Type 1} → statement M
 add-terms-spec =
