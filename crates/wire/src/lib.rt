@@ -53,7 +53,10 @@ impl<'a> BitReader<'a> {
         requires { ⌜ self .at + width < 2 ^ 64 ⌝ }
         ensures { λ r. ⌜ (r .frame ≡ self .entry .frame) × (r .at ≡ self .entry .at + width) ⌝ }
     {
-        BitReader { frame: self.frame, at: self.at + width }
+        BitReader {
+            frame: self.frame,
+            at: self.at + width,
+        }
     }
 }
 

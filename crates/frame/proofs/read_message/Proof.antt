@@ -1,5 +1,5 @@
 -- `read_message` meets its contract. Assumes nothing.
-use mathlib.Core.Path.{refl}
+use mathlib.Core.Path.{_≡_, refl}
 use Prim.Native.Nat.{_+_}
 use native.Mathlib.Omega.{arith}
 use Rattle.wire.specs.Field.{field, total}
@@ -23,14 +23,25 @@ returns c =
 take-bits-requires : tie.Need-take-bits-requires
 take-bits-requires c κs = omega arith
 
+add-take-bits : tie.Need-add-take-bits
+add-take-bits c = omega arith
+
+take-bits-requires-2 : tie.Need-take-bits-requires-2
+take-bits-requires-2 c κs = omega arith
+
 cast-pairs : tie.Need-cast-pairs
 cast-pairs c = omega arith
 
 add-pairs : tie.Need-add-pairs
 add-pairs c = omega arith
 
+add-checked-pairs : tie.Need-add-checked-pairs
+add-checked-pairs c = omega arith
+
 checked-pairs-requires : tie.Need-checked-pairs-requires
-checked-pairs-requires c κs = omega (arith, field-lt (c .before .before .before .args .bytes .now) 56 4)
+checked-pairs-requires c κs =
+    let a = c .before .before .before .before .args in
+    omega (arith, field-lt (a .bytes .now) (a .at + 20) 4)
 
 refusal-requires-2 : tie.Need-refusal-requires-2
 refusal-requires-2 c κs = tt
@@ -38,25 +49,25 @@ refusal-requires-2 c κs = tt
 returns-2 : tie.Need-returns-2
 unfolding shapeOfKind total
 returns-2 c =
-    let s = c .before .before .before .before .before .before .before .args .bytes .now in
-    rw (← c .before .before .before .before .take-bits .ensures)
-    (read-refused s messageHead countWidth (c .before .before .before .before .take-bits .result + 1) (message (field s 4 32) (field s 36 20)) (c .before .before .before .checked-pairs .result) (c .before .before .before .checked-pairs .ensures) _ (λ z. omega arith) (c .refusal2 .ensures))
-
-take-bits-requires-2 : tie.Need-take-bits-requires-2
-take-bits-requires-2 c κs = omega arith
-
-take-bits-requires-3 : tie.Need-take-bits-requires-3
-take-bits-requires-3 c κs = omega arith
+    let at-pairs = c .before .before .before in
+    let a = at-pairs .before .before .before .before .before .args in
+    let s = a .bytes .now in
+    let e : a .at ≡ 36 = omega arith in
+    rw (← rw e at (at-pairs .before .take-bits2 .ensures))
+    (read-refused s messageHead countWidth (at-pairs .before .take-bits2 .result + 1) (message (field s 4 32) (field s 36 20)) (at-pairs .checked-pairs .result) (rw e at (at-pairs .checked-pairs .ensures)) _ (λ z. omega arith) (c .refusal2 .ensures))
 
 returns-3 : tie.Need-returns-3
 unfolding shapeOfKind total
 returns-3 c =
-    let at-pairs = c .before .before .before .before .before .before in
-    let m = at-pairs .before .take-bits .result + 1 in
-    let s = at-pairs .before .before .before .before .args .bytes .now in
-    rw (← at-pairs .before .take-bits .ensures)
-    (read-accepted s messageHead countWidth m (message (field s 4 32) (field s 36 20)) (at-pairs .checked-pairs .result) (at-pairs .checked-pairs .ensures) _
-    (omega arith) (rw (length-pairs s 60 countWidth m, ← c .before .before .before .take-bits2 .ensures, ← c .before .before .take-bits3 .ensures)) refl)
+    let at-pairs = c .before .before .before .before in
+    let m = at-pairs .before .take-bits2 .result + 1 in
+    let a = at-pairs .before .before .before .before .before .args in
+    let s = a .bytes .now in
+    let e : a .at ≡ 36 = omega arith in
+    let t : a .time ≡ field s 4 32 = omega arith in
+    rw (← rw e at (at-pairs .before .take-bits2 .ensures))
+    (read-accepted s messageHead countWidth m (message (field s 4 32) (field s 36 20)) (at-pairs .checked-pairs .result) (rw e at (at-pairs .checked-pairs .ensures)) _
+    (omega arith) (rw (length-pairs s 60 countWidth m, ← t, ← rw e at (at-pairs .before .before .take-bits .ensures))) refl)
 
 pub read-message-spec : {M : Type 1} → statement M
 read-message-spec =
@@ -65,11 +76,12 @@ read-message-spec =
     refusal-requires
     returns
     take-bits-requires
+    add-take-bits
+    take-bits-requires-2
     cast-pairs
     add-pairs
+    add-checked-pairs
     checked-pairs-requires
     refusal-requires-2
     returns-2
-    take-bits-requires-2
-    take-bits-requires-3
     returns-3)
