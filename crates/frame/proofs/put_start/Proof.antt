@@ -7,15 +7,6 @@ use Rattle.frame.proofs.LaidLaws.{laid-none, laid-more}
 use Rattle.frame.proofs.put_start.Statement.{statement}
 use Rattle.frame.proofs.put_start.Tie as tie
 
-put-bits-requires : tie.Need-put-bits-requires
-put-bits-requires c κs = omega arith
-
-put-bits-requires-2 : tie.Need-put-bits-requires-2
-put-bits-requires-2 c κs = omega arith
-
-same-length : tie.Need-same-length
-same-length c = omega arith
-
 returns : tie.Need-returns
 unfolding total spell
 returns c =
@@ -24,4 +15,4 @@ returns c =
     (laid-more s s (c .before .before .before .before .before .before .put-bits .last .0) [] [] 4 (c .before .before .before .before .before .before .before .before .before .args .kind) refl (laid-none s 0) (c .before .before .before .before .before .before .put-bits .ensures)) (c .before .before .put-bits2 .ensures)
 
 pub put-start-spec : {M : Type 1} → statement M
-put-start-spec = tie.close (tie.spec put-bits-requires put-bits-requires-2 same-length returns)
+put-start-spec = tie.close (tie.spec (λ c κs. omega arith) (λ c κs. omega arith) (λ c. omega arith) returns)

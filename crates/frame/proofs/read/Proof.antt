@@ -6,15 +6,9 @@ use Rattle.paper.specs.Frame.{shape}
 use Rattle.frame.proofs.read.Statement.{statement}
 use Rattle.frame.proofs.read.Tie as tie
 
-refusal-requires : tie.Need-refusal-requires
-refusal-requires c κs = tt
-
 returns : tie.Need-returns
 unfolding shape
 returns c = rw (lt-ltb (length (c .before .before .before .args .bytes .now)) 5 (omega arith)) (c .refusal .ensures)
-
-read-fields-requires : tie.Need-read-fields-requires
-read-fields-requires c κs = omega arith
 
 returns-2 : tie.Need-returns-2
 unfolding shape
@@ -24,7 +18,7 @@ pub read-spec : {M : Type 1} → statement M
 read-spec =
     tie.close
     (tie.spec
-    refusal-requires
+    (λ c κs. tt)
     returns
-    read-fields-requires
+    (λ c κs. omega arith)
     returns-2)

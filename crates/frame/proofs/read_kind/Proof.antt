@@ -5,21 +5,6 @@ use Rattle.paper.specs.Frame.{shapeOfKind}
 use Rattle.frame.proofs.read_kind.Statement.{statement}
 use Rattle.frame.proofs.read_kind.Tie as tie
 
-read-message-requires : tie.Need-read-message-requires
-read-message-requires c κs = omega arith
-
-read-tick-requires : tie.Need-read-tick-requires
-read-tick-requires c κs = omega arith
-
-read-register-requires : tie.Need-read-register-requires
-read-register-requires c κs = omega arith
-
-read-unregister-requires : tie.Need-read-unregister-requires
-read-unregister-requires c κs = omega arith
-
-refusal-requires : tie.Need-refusal-requires
-refusal-requires c κs = tt
-
 returns : tie.Need-returns
 returns c = rw (c .before .match .keys1) (c .read-message .ensures)
 
@@ -43,11 +28,11 @@ pub read-kind-spec : {M : Type 1} → statement M
 read-kind-spec =
     tie.close
     (tie.spec
-    read-message-requires
-    read-tick-requires
-    read-register-requires
-    read-unregister-requires
-    refusal-requires
+    (λ c κs. omega arith)
+    (λ c κs. omega arith)
+    (λ c κs. omega arith)
+    (λ c κs. omega arith)
+    (λ c κs. tt)
     returns
     returns-2
     returns-3

@@ -11,40 +11,16 @@ use Rattle.frame.proofs.ReadLaws.{read-refused, read-accepted, read-sho
 use Rattle.frame.proofs.read_message.Statement.{statement}
 use Rattle.frame.proofs.read_message.Tie as tie
 
-refusal-requires : tie.Need-refusal-requires
-refusal-requires c κs = tt
-
 returns : tie.Need-returns
 unfolding shapeOfKind total
 returns c =
     let s = c .before .before .before .args .bytes .now in
     read-short s messageHead countWidth (field s 56 4 + 1) (message (field s 4 32) (field s 36 20)) _ (λ e. omega arith) (c .refusal .ensures)
 
-take-bits-requires : tie.Need-take-bits-requires
-take-bits-requires c κs = omega arith
-
-add-take-bits : tie.Need-add-take-bits
-add-take-bits c = omega arith
-
-take-bits-requires-2 : tie.Need-take-bits-requires-2
-take-bits-requires-2 c κs = omega arith
-
-cast-pairs : tie.Need-cast-pairs
-cast-pairs c = omega arith
-
-add-pairs : tie.Need-add-pairs
-add-pairs c = omega arith
-
-add-checked-pairs : tie.Need-add-checked-pairs
-add-checked-pairs c = omega arith
-
 checked-pairs-requires : tie.Need-checked-pairs-requires
 checked-pairs-requires c κs =
     let a = c .before .before .before .before .args in
     omega (arith, field-lt (a .bytes .now) (a .at + 20) 4)
-
-refusal-requires-2 : tie.Need-refusal-requires-2
-refusal-requires-2 c κs = tt
 
 returns-2 : tie.Need-returns-2
 unfolding shapeOfKind total
@@ -73,15 +49,15 @@ pub read-message-spec : {M : Type 1} → statement M
 read-message-spec =
     tie.close
     (tie.spec
-    refusal-requires
+    (λ c κs. tt)
     returns
-    take-bits-requires
-    add-take-bits
-    take-bits-requires-2
-    cast-pairs
-    add-pairs
-    add-checked-pairs
+    (λ c κs. omega arith)
+    (λ c. omega arith)
+    (λ c κs. omega arith)
+    (λ c. omega arith)
+    (λ c. omega arith)
+    (λ c. omega arith)
     checked-pairs-requires
-    refusal-requires-2
+    (λ c κs. tt)
     returns-2
     returns-3)

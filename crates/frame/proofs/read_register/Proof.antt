@@ -11,51 +11,21 @@ use Rattle.frame.proofs.ReadLaws.{read-refused, read-accepted, read-sho
 use Rattle.frame.proofs.read_register.Statement.{statement}
 use Rattle.frame.proofs.read_register.Tie as tie
 
-refusal-requires : tie.Need-refusal-requires
-refusal-requires c κs = tt
-
 returns : tie.Need-returns
 unfolding shapeOfKind total
 returns c =
     let s = c .before .before .before .args .bytes .now in
     read-short s registerHead weightWidth (field s 45 3 + 1) (register (field s 4 32) (field s 36 5) (field s 41 4 + 1)) _ (λ e. omega arith) (c .refusal .ensures)
 
-take-bits-requires : tie.Need-take-bits-requires
-take-bits-requires c κs = omega arith
-
-add-take-bits : tie.Need-add-take-bits
-add-take-bits c = omega arith
-
-take-bits-requires-2 : tie.Need-take-bits-requires-2
-take-bits-requires-2 c κs = omega arith
-
 add-k : tie.Need-add-k
 add-k c =
     let a = c .before .before .before .before .args in
     omega (arith, field-lt (a .bytes .now) (a .at + 5) 4)
 
-add-take-bits-2 : tie.Need-add-take-bits-2
-add-take-bits-2 c = omega arith
-
-take-bits-requires-3 : tie.Need-take-bits-requires-3
-take-bits-requires-3 c κs = omega arith
-
-cast-n : tie.Need-cast-n
-cast-n c = omega arith
-
-add-n : tie.Need-add-n
-add-n c = omega arith
-
-add-checked-pairs : tie.Need-add-checked-pairs
-add-checked-pairs c = omega arith
-
 checked-pairs-requires : tie.Need-checked-pairs-requires
 checked-pairs-requires c κs =
     let a = c .before .before .before .before .before .args in
     omega (arith, field-lt (a .bytes .now) (a .at + 9) 3)
-
-refusal-requires-2 : tie.Need-refusal-requires-2
-refusal-requires-2 c κs = tt
 
 returns-2 : tie.Need-returns-2
 unfolding shapeOfKind total
@@ -84,18 +54,18 @@ pub read-register-spec : {M : Type 1} → statement M
 read-register-spec =
     tie.close
     (tie.spec
-    refusal-requires
+    (λ c κs. tt)
     returns
-    take-bits-requires
-    add-take-bits
-    take-bits-requires-2
+    (λ c κs. omega arith)
+    (λ c. omega arith)
+    (λ c κs. omega arith)
     add-k
-    add-take-bits-2
-    take-bits-requires-3
-    cast-n
-    add-n
-    add-checked-pairs
+    (λ c. omega arith)
+    (λ c κs. omega arith)
+    (λ c. omega arith)
+    (λ c. omega arith)
+    (λ c. omega arith)
     checked-pairs-requires
-    refusal-requires-2
+    (λ c κs. tt)
     returns-2
     returns-3)

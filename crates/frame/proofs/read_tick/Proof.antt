@@ -8,12 +8,6 @@ use Rattle.frame.proofs.ReadLaws.{read-refused, read-accepted}
 use Rattle.frame.proofs.read_tick.Statement.{statement}
 use Rattle.frame.proofs.read_tick.Tie as tie
 
-checked-pairs-requires : tie.Need-checked-pairs-requires
-checked-pairs-requires c κs = omega arith
-
-refusal-requires : tie.Need-refusal-requires
-refusal-requires c κs = tt
-
 returns : tie.Need-returns
 unfolding shapeOfKind total
 returns c =
@@ -38,7 +32,7 @@ pub read-tick-spec : {M : Type 1} → statement M
 read-tick-spec =
     tie.close
     (tie.spec
-    checked-pairs-requires
-    refusal-requires
+    (λ c κs. omega arith)
+    (λ c κs. tt)
     returns
     returns-2)

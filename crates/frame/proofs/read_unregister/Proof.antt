@@ -8,15 +8,6 @@ use Rattle.frame.proofs.ReadLaws.{read-refused, read-accepted}
 use Rattle.frame.proofs.read_unregister.Statement.{statement}
 use Rattle.frame.proofs.read_unregister.Tie as tie
 
-add-checked-pairs : tie.Need-add-checked-pairs
-add-checked-pairs c = omega arith
-
-checked-pairs-requires : tie.Need-checked-pairs-requires
-checked-pairs-requires c κs = omega arith
-
-refusal-requires : tie.Need-refusal-requires
-refusal-requires c κs = tt
-
 returns : tie.Need-returns
 unfolding shapeOfKind total
 returns c =
@@ -44,9 +35,9 @@ pub read-unregister-spec : {M : Type 1} → statement M
 read-unregister-spec =
     tie.close
     (tie.spec
-    add-checked-pairs
-    checked-pairs-requires
-    refusal-requires
+    (λ c. omega arith)
+    (λ c κs. omega arith)
+    (λ c κs. tt)
     returns
     take-bits-requires
     returns-2)
