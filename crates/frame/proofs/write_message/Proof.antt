@@ -59,15 +59,6 @@ returns-2 c =
     pairs-refused (range (a .time) (a .serial)) countWidth mostPairs (a .pairs) (a .terms .now) (a .amounts .now) (framed z) (a .out .now) (c .unwritten2 .result) (in-range (c .before .before .before))
     (omega arith) (λ k. omega arith) (omega arith)
 
-mul-if3 : tie.Need-mul-if3
-mul-if3 c = let h = enough c in omega arith
-
-add-if3 : tie.Need-add-if3
-add-if3 c = let h = enough c in omega arith
-
-add-if3-2 : tie.Need-add-if3-2
-add-if3-2 c = let h = enough c in omega arith
-
 returns-3 : tie.Need-returns-3
 unfolding fromFields
 returns-3 c =
@@ -75,9 +66,6 @@ returns-3 c =
     let a = z .args in
     pairs-short (range (a .time) (a .serial)) countWidth mostPairs (a .pairs) (a .terms .now) (a .amounts .now) (framed z) (a .out .now) (c .unwritten3 .result) (in-range (c .before .before .before .before)) (judged (c .before .before))
     (omega (arith, size (c .before .before))) (omega arith) (omega arith)
-
-put-message-requires : tie.Need-put-message-requires
-put-message-requires c κs = let h = enough (c .before .before) in omega arith
 
 returns-4 : tie.Need-returns-4
 unfolding fromFields
@@ -96,11 +84,11 @@ write-message-spec =
     (λ c κs. omega arith)
     (λ c κs. tt)
     returns-2
-    mul-if3
-    add-if3
-    add-if3-2
+    (λ c. let h = enough c in omega arith)
+    (λ c. let h = enough c in omega arith)
+    (λ c. let h = enough c in omega arith)
     (λ c κs. tt)
     returns-3
-    put-message-requires
+    (λ c κs. let h = enough (c .before .before) in omega arith)
     (λ c. omega arith)
     returns-4)

@@ -62,15 +62,6 @@ returns-2 c =
     pairs-refused (range (a .time) (a .number) (a .k)) weightWidth mostTerms (a .pairs) (a .terms .now) (a .amounts .now) (framed z) (a .out .now) (c .unwritten2 .result) (in-range (c .before .before .before))
     (omega arith) (λ k. omega arith) (omega arith)
 
-mul-if3 : tie.Need-mul-if3
-mul-if3 c = let h = enough c in omega arith
-
-add-if3 : tie.Need-add-if3
-add-if3 c = let h = enough c in omega arith
-
-add-if3-2 : tie.Need-add-if3-2
-add-if3-2 c = let h = enough c in omega arith
-
 returns-3 : tie.Need-returns-3
 unfolding fromFields
 returns-3 c =
@@ -104,9 +95,9 @@ write-register-spec =
     (λ c κs. omega arith)
     (λ c κs. tt)
     returns-2
-    mul-if3
-    add-if3
-    add-if3-2
+    (λ c. let h = enough c in omega arith)
+    (λ c. let h = enough c in omega arith)
+    (λ c. let h = enough c in omega arith)
     (λ c κs. tt)
     returns-3
     put-register-requires
