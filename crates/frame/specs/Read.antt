@@ -52,7 +52,7 @@ pub record ReadPost (sh : Shape) (r : Parsed) : Type 0 where
 
 -- ---- the inner functions
 
--- kind and time are taken, and the reader stands after them
+-- kind and time are taken, and the reader stands after their 36 bits
 abbrev pub Started : List ℕ → ℕ → ℕ → Type 0
 Started s at time = (at ≡ 36) × (time ≡ timeOfBytes s)
 

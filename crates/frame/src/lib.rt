@@ -136,7 +136,7 @@ fn refusal(number: u32) -> Parsed
     }
 }
 
-// The fields of a message from bit `at`, after kind and time.
+// A message's fields from bit `at`, which stands after kind and time.
 fn read_message(bytes: &[u8], at: usize, time: u32) -> Parsed
     requires { ⌜ Started (now bytes) at time ⌝ }
     ensures { λ r. ⌜ ReadPost (shapeOfKind 1 (now (bytes .entry))) r ⌝ }
@@ -228,6 +228,7 @@ fn read_unregister(bytes: &[u8], at: usize, time: u32) -> Parsed
     }
 }
 
+// The fields of any kind from bit `at`.
 fn read_kind(bytes: &[u8], at: usize, kind: u32, time: u32) -> Parsed
     requires { ⌜ Started (now bytes) at time ⌝ }
     ensures { λ r. ⌜ ReadPost (shapeOfKind kind (now (bytes .entry))) r ⌝ }
@@ -241,7 +242,7 @@ fn read_kind(bytes: &[u8], at: usize, kind: u32, time: u32) -> Parsed
     }
 }
 
-// The fields in order from one reader: kind and time, and then those of the kind, from the bit where it stands.
+// The fields in order from one reader: kind and time, and then those of the kind from the bit where it stands.
 fn read_fields(bytes: &[u8]) -> Parsed
     requires { ⌜ 5 ≤ length (now bytes) ⌝ }
     ensures { λ r. ⌜ ReadPost (shapeOfKind (field (now (bytes .entry)) 0 4) (now (bytes .entry))) r ⌝ }
