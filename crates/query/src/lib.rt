@@ -277,8 +277,9 @@ fn list_stands(
     requires { ⌜ (length (now state) ≡ stateLength) × (q < numbers) × (gone < slots) × InRange query ⌝ }
     ensures { λ r. ⌜ Stands (words (now (state .entry))) q gone departed newest query r ⌝ }
 {
+    let k = query.k;
     let list = load_list(state, q);
-    if list.count != query.k {
+    if list.count != k {
         return false;
     }
     let last = rank::last_score(list);

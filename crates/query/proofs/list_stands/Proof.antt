@@ -16,14 +16,14 @@ sixteen c = record { most = c .load-list .ensures .count-most; serials = search 
 returns-2 : tie.Need-returns-2
 returns-2 c =
     let t = c .before .before in
-    let l = t .before .before .before .before in
+    let l = t .before .before .before in
     stands-newest (l .load-list .ensures) (sixteen l) (t .before .if1 .left) (t .last-score .ensures) (subst (NewestLow _ _ _ _) (not-true _ (c .if2 .taken)) (c .before .newest-below .ensures))
 
 returns-3 : tie.Need-returns-3
 returns-3 c =
     let n = c .before .before in
     let t = n .before in
-    let l = t .before .before .before .before in
+    let l = t .before .before .before in
     stands-gone (l .load-list .ensures) (sixteen l) (t .before .if1 .left) (t .last-score .ensures) (subst (NewestLow _ _ _ _) (not-false _ (c .before .if2 .left)) (n .newest-below .ensures))
     (c .all-below .ensures)
 
@@ -32,9 +32,9 @@ list-stands-spec =
     tie.close
     (tie.spec
     (λ c κs. search needs)
-    (λ c. let l = c .before .before .before in stands-short (l .load-list .ensures) (sixteen l) (c .if1 .taken))
-    (λ c κs. c .before .before .before .load-list .ensures .count-most)
+    (λ c. let l = c .before .before in stands-short (l .load-list .ensures) (sixteen l) (c .if1 .taken))
+    (λ c κs. c .before .before .load-list .ensures .count-most)
     (λ c κs. search needs)
     returns-2
-    (λ c κs. let p = c .before .before .before .before .before .before .before .before .pre in ((search needs, search needs, p .3 .n-most), weights-below (p .3)))
+    (λ c κs. let p = c .before .before .before .before .before .before .before .pre in ((search needs, search needs, p .3 .n-most), weights-below (p .3)))
     returns-3)
