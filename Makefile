@@ -1,6 +1,9 @@
-# The two commands of README.md; each does everything it needs on a fresh machine.
+# The commands of README.md; each does everything it needs on a fresh machine.
 
-.PHONY: sample test
+PREFIX = /usr/local
+archive = target/staticlib/libfennelrake.a
+
+.PHONY: sample test install
 
 # The worked passage, written as text, handed to the session program as bytes.
 sample:
@@ -10,3 +13,16 @@ sample:
 
 test:
 	bash tests/all
+
+# For C hosts, under DESTDIR where it's set: the files name PREFIX alone. The .pc file needs the whole path, also of a PREFIX relative to here.
+install: $(archive)
+	install -d $(DESTDIR)$(PREFIX)/lib/pkgconfig $(DESTDIR)$(PREFIX)/include $(DESTDIR)$(PREFIX)/share/man/man3
+	install -m 644 $(archive) $(DESTDIR)$(PREFIX)/lib
+	install -m 644 include/fennelrake.h $(DESTDIR)$(PREFIX)/include
+	install -m 644 man/fennelrake.3 $(DESTDIR)$(PREFIX)/share/man/man3
+	sed 's|@PREFIX@|$(abspath $(PREFIX))|' fennelrake.pc.in > $(DESTDIR)$(PREFIX)/lib/pkgconfig/fennelrake.pc
+	chmod 644 $(DESTDIR)$(PREFIX)/lib/pkgconfig/fennelrake.pc
+
+# Made where it isn't there; after a change to a crate, `rt staticlib fennelrake` makes it again.
+$(archive):
+	rt staticlib fennelrake

@@ -74,6 +74,55 @@ pub fn start(state: &mut Lent, capacity: u32, life: u32) -> u32 {
     r
 }
 
+/// The calls on any memory: only what a call is lent may be written, and of that nothing that it only reads.
+pub mod raw {
+    use super::*;
+
+    pub fn frame(state: &mut Lent, bytes: &[u8], answer: &mut Lent) -> u32 {
+        let mut bytes = Lent::new(bytes);
+        let (before, n, k, m) = (bytes.clone(), state.bytes().len(), bytes.bytes().len(), answer.bytes().len());
+        // SAFETY: each pointer and length are of one slice, and the slices don't overlap
+        let r = unsafe { fennelrake_frame(state.at(), n, bytes.at(), k, answer.at(), m) };
+        state.check();
+        answer.check();
+        bytes.check();
+        assert!(before.bytes() == bytes.bytes(), "a call wrote in the frame");
+        r
+    }
+
+    pub fn list(state: &mut Lent, number: u32, answer: &mut Lent) -> u32 {
+        let (n, m) = (state.bytes().len(), answer.bytes().len());
+        // SAFETY: as above
+        let r = unsafe { fennelrake_list(state.at(), n, number, answer.at(), m) };
+        state.check();
+        answer.check();
+        r
+    }
+
+    pub fn postings(state: &mut Lent, term: u32, out: &mut Lent) -> u64 {
+        let (n, m) = (state.bytes().len(), out.bytes().len());
+        // SAFETY: as above
+        let r = unsafe { fennelrake_postings(state.at(), n, term, out.at(), m) };
+        state.check();
+        out.check();
+        r
+    }
+
+    pub fn write(f: &Fields, out: &mut Lent) -> u64 {
+        let terms: Vec<u8> = f.terms.iter().flat_map(|t| t.to_be_bytes()).collect();
+        let (mut terms, mut amounts) = (Lent::new(&terms), Lent::new(&f.amounts));
+        let (t, a) = (terms.clone(), amounts.clone());
+        let (n, k, m) = (t.bytes().len(), a.bytes().len(), out.bytes().len());
+        // SAFETY: as above
+        let r = unsafe { fennelrake_write(f.kind, f.time, f.serial, f.number, f.k, f.pairs, terms.at(), n, amounts.at(), k, out.at(), m) };
+        out.check();
+        terms.check();
+        amounts.check();
+        assert!(t.bytes() == terms.bytes() && a.bytes() == amounts.bytes(), "a call wrote in the terms or the amounts");
+        r
+    }
+}
+
 /// The reply; a refusal must leave state and answer as they were.
 pub fn frame(state: &mut Lent, bytes: &[u8]) -> Reply {
     let mut answer = Lent::new(&[0xa5; FRAME_ANSWER + 3]);
@@ -83,38 +132,27 @@ pub fn frame(state: &mut Lent, bytes: &[u8]) -> Reply {
     if number == 0 {
         Reply { number, marks: word(a, 0), departures: word(a, 1) }
     } else {
-        assert_eq!(a[..FRAME_ANSWER], [0xa5; FRAME_ANSWER], "a refusal wrote an answer");
         Reply { number, marks: 0, departures: 0 }
     }
 }
 
 pub fn frame_into(state: &mut Lent, bytes: &[u8], answer: &mut Lent) -> u32 {
-    let before = state.clone();
-    let (n, m) = (state.bytes().len(), answer.bytes().len());
-    // SAFETY: each pointer and length are of one slice, and the slices don't overlap
-    let r = unsafe { fennelrake_frame(state.at(), n, bytes.as_ptr(), bytes.len(), answer.at(), m) };
-    state.check();
-    answer.check();
+    let (before, unanswered) = (state.clone(), answer.clone());
+    let r = raw::frame(state, bytes, answer);
     if r != 0 {
         assert!(before.bytes() == state.bytes(), "a refusal changed the state");
+        assert!(unanswered.bytes() == answer.bytes(), "a refusal wrote an answer");
     }
     r
 }
 
 /// The list of a query as a reading returns it, or the number that refuses it.
 pub fn list(state: &Lent, number: u32) -> Result<Vec<(u32, u32)>, u32> {
-    let mut copy = state.clone();
     let mut answer = Lent::new(&[0xa5; LIST_ANSWER + 3]);
-    let (n, m) = (copy.bytes().len(), answer.bytes().len());
-    // SAFETY: as above
-    let r = unsafe { fennelrake_list(copy.at(), n, number, answer.at(), m) };
-    copy.check();
-    answer.check();
-    assert!(copy.bytes() == state.bytes(), "a reading wrote in the state");
+    let r = list_into(state, number, &mut answer);
     let a = answer.bytes();
     assert_eq!(&a[LIST_ANSWER..], [0xa5; 3], "bytes past the answer changed");
     if r != 0 {
-        assert_eq!(a[..LIST_ANSWER], [0xa5; LIST_ANSWER], "a refusal wrote an answer");
         return Err(r);
     }
     let count = word(a, 0) as usize;
@@ -125,15 +163,21 @@ pub fn list(state: &Lent, number: u32) -> Result<Vec<(u32, u32)>, u32> {
     Ok((0..count).map(|i| (word(a, 1 + i), word(a, 17 + i))).collect())
 }
 
+pub fn list_into(state: &Lent, number: u32, answer: &mut Lent) -> u32 {
+    let (mut copy, unanswered) = (state.clone(), answer.clone());
+    let r = raw::list(&mut copy, number, answer);
+    assert!(copy.bytes() == state.bytes(), "a reading wrote in the state");
+    if r != 0 {
+        assert!(unanswered.bytes() == answer.bytes(), "a refusal wrote an answer");
+    }
+    r
+}
+
 /// The postings of a term, written into output of so many bytes, or the number that refuses it.
 pub fn postings(state: &Lent, term: u32, room: usize) -> Result<Vec<(u32, u32)>, u32> {
     let mut copy = state.clone();
     let mut out = Lent::new(&vec![0xa5; room]);
-    let n = copy.bytes().len();
-    // SAFETY: as above
-    let r = unsafe { fennelrake_postings(copy.at(), n, term, out.at(), room) };
-    copy.check();
-    out.check();
+    let r = raw::postings(&mut copy, term, &mut out);
     assert!(copy.bytes() == state.bytes(), "a reading wrote in the state");
     let (number, count) = ((r >> 32) as u32, r as u32 as usize);
     let written = if number == 0 { 8 * count } else { 0 };
@@ -160,18 +204,16 @@ pub struct Fields {
 
 /// The frame's bytes, or the number that refuses it.
 pub fn write(f: &Fields, room: usize) -> Result<Vec<u8>, u32> {
-    let terms: Vec<u8> = f.terms.iter().flat_map(|t| t.to_be_bytes()).collect();
-    let mut out = Lent::new(&vec![0xa5; room]);
-    // SAFETY: as above
-    let r = unsafe {
-        fennelrake_write(
-            f.kind, f.time, f.serial, f.number, f.k, f.pairs,
-            terms.as_ptr(), terms.len(), f.amounts.as_ptr(), f.amounts.len(), out.at(), room,
-        )
-    };
-    out.check();
+    write_over(f, &vec![0xa5; room])
+}
+
+/// The same into output that holds bytes already: those past the frame must stay.
+pub fn write_over(f: &Fields, held: &[u8]) -> Result<Vec<u8>, u32> {
+    let mut out = Lent::new(held);
+    let r = raw::write(f, &mut out);
     let (number, length) = ((r >> 32) as u32, r as u32 as usize);
-    assert!(out.bytes()[if number == 0 { length } else { 0 }..].iter().all(|&b| b == 0xa5), "output past the frame changed");
+    let written = if number == 0 { length } else { 0 };
+    assert!(out.bytes()[written..] == held[written..], "output past the frame changed");
     if number != 0 {
         assert_eq!(length, 0, "a refusal returned a length");
         return Err(number);

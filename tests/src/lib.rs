@@ -3,3 +3,4 @@
 pub mod engine;
 pub mod paper;
 pub mod random;
+pub mod source;

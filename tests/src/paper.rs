@@ -19,9 +19,12 @@ pub struct Query {
 
 // ---- impact and rank
 
-/// The greatest whole w with w² × n ≤ (1000 × f)².
+/// The greatest whole w with w² × n ≤ (1000 × f)²: a guess, for speed, put right by that rule alone.
 pub fn impact(f: u64, n: u64) -> u64 {
-    let mut w = 0;
+    let mut w = ((TOP * f) as f64 / (n as f64).sqrt()) as u64;
+    while w * w * n > (TOP * f) * (TOP * f) {
+        w -= 1;
+    }
     while (w + 1) * (w + 1) * n <= (TOP * f) * (TOP * f) {
         w += 1;
     }

@@ -39,7 +39,21 @@ fn lengths_lent() {
     for number in [0, 31, 32, u32::MAX] {
         assert_eq!(engine::list(&fresh(), number), Err(10));
     }
-    assert!(LIST_ANSWER == 4 * 33);
+    // a number in use, one that isn't, and one that can't be: 12 comes first for each
+    let mut state = fresh();
+    let register = Frame::Register { time: 0, number: 7, k: 1, terms: vec![(5, 1)] }.bytes();
+    assert_eq!(engine::frame(&mut state, &register).number, 0);
+    for number in [7, 8, 32] {
+        for (len, want) in [(LIST_ANSWER, if number == 7 { 0 } else { 10 }), (LIST_ANSWER - 1, 12), (8, 12), (0, 12)] {
+            let mut answer = Lent::new(&vec![0x33; len]);
+            assert_eq!(engine::list_into(&state, number, &mut answer), want, "number {number}, {len} bytes");
+        }
+        for len in [0, 4, STATE - 1, STATE + 1] {
+            let mut bytes = state.bytes().to_vec();
+            bytes.resize(len, 0);
+            assert_eq!(engine::list(&Lent::new(&bytes), number), Err(12));
+        }
+    }
     assert_eq!(engine::postings(&Lent::new(&[0; 8]), 2000, 0), Err(12));
     assert_eq!(engine::postings(&fresh(), 1024, 0), Err(5));
     assert_eq!(engine::postings(&fresh(), 1023, 0), Ok(vec![]));
@@ -97,12 +111,6 @@ fn check(state: &Lent, bytes: &[u8]) {
     }
 }
 
-/// A number below `rare` once in n times, else below `often`.
-fn pick(r: &mut Random, n: u64, rare: u64, often: u64) -> u64 {
-    let limit = if r.one_in(n) { rare } else { often };
-    r.below(limit)
-}
-
 #[test]
 fn writer() {
     let mut r = Random::new(12);
@@ -114,12 +122,12 @@ fn writer() {
             terms.sort_unstable();
             terms.dedup();
         }
-        let amounts: Vec<u8> = terms.iter().map(|_| if r.one_in(30) { 0 } else { 1 + pick(&mut r, 3, 255, 15) as u8 }).collect();
+        let amounts: Vec<u8> = terms.iter().map(|_| if r.one_in(30) { 0 } else { 1 + r.pick(3, 255, 15) as u8 }).collect();
         let f = Fields {
             kind: if r.one_in(20) { r.below(9) as u32 } else { 1 + r.below(4) as u32 },
             time: r.next() as u32,
-            serial: pick(&mut r, 9, 1 << 32, 1 << 20) as u32,
-            number: pick(&mut r, 9, 1 << 32, 32) as u32,
+            serial: r.pick(9, 1 << 32, 1 << 20) as u32,
+            number: r.pick(9, 1 << 32, 32) as u32,
             k: r.below(18) as u32,
             pairs: if r.one_in(12) { r.below(40) as u32 } else { terms.len() as u32 },
             terms,
@@ -177,36 +185,101 @@ fn expected(f: &Fields) -> Result<Vec<u8>, u32> {
     Ok(frame.bytes())
 }
 
-/// State memory that no sequence of calls left: every call is safe, ends, and writes only within what it was lent.
+/// State memory that no sequence of calls left: every call is safe, ends, and writes only within what it was lent. What it answers isn't fixed.
 #[test]
 fn foreign_memory() {
     let mut r = Random::new(13);
-    for round in 0..60 {
-        let bytes = match round % 3 {
-            0 => r.bytes(STATE),
-            1 => vec![0xff; STATE],
-            _ => {
-                let mut bytes = fresh().bytes().to_vec();
-                for _ in 0..200 {
-                    let i = r.below(STATE as u64) as usize;
-                    bytes[i] = r.next() as u8;
-                }
-                bytes
-            }
-        };
+    let mut changed = 0;
+    for round in 0..200 {
+        let bytes = foreign(&mut r, round);
         let mut state = Lent::new(&bytes);
         for _ in 0..20 {
-            let time = if r.one_in(2) { u32::MAX } else { r.next() as u32 };
-            let number = r.below(32) as usize;
-            let frame = match r.below(4) {
-                0 => Frame::Tick { time },
-                1 => Frame::Register { time, number, k: 1 + r.below(16) as usize, terms: vec![(1, 1), (500, 15)] },
-                2 => Frame::Drop { time, number },
-                _ => Frame::Message { time, serial: r.below(1 << 20) as u32, pairs: vec![(0, 1), (1, 255), (1023, 7)] },
-            };
-            engine::frame(&mut state, &frame.bytes());
-            let _ = engine::list(&state, number as u32);
-            let _ = engine::postings(&state, 1, 2048);
+            let before = state.clone();
+            let mut answer = Lent::new(&r.bytes(FRAME_ANSWER));
+            engine::raw::frame(&mut state, &frame(&mut r), &mut answer);
+            changed += (before.bytes() != state.bytes()) as usize;
+            let mut answer = Lent::new(&r.bytes(LIST_ANSWER));
+            engine::raw::list(&mut state, r.pick(4, 1 << 32, 32) as u32, &mut answer);
+            let (n, term) = (r.pick(4, 64, 2049) as usize, r.pick(8, 1 << 32, 1024) as u32);
+            engine::raw::postings(&mut state, term, &mut Lent::new(&r.bytes(n)));
+            // the term of a cell as it stands there, so that there are postings
+            let term = engine::word(state.bytes(), 5 + 19 * r.below(257) as usize + 3 + r.below(16) as usize) / 4194304;
+            engine::raw::postings(&mut state, term, &mut Lent::new(&r.bytes(n)));
         }
+        // a start takes nothing from what the memory held
+        assert_eq!(engine::start(&mut state, 3, 100), 0);
+        assert!(state.bytes() == fresh().bytes(), "a start left something of foreign memory");
+    }
+    assert!(changed > 200, "hardly a call took a frame into foreign memory: {changed}");
+}
+
+/// Any bytes; all of one value; a passage's state with bytes or words of it changed.
+fn foreign(r: &mut Random, round: usize) -> Vec<u8> {
+    if round % 4 == 0 {
+        return r.bytes(STATE);
+    }
+    if round % 4 == 1 {
+        return vec![[0x00, 0xff, 0x80, 0x01][round / 4 % 4]; STATE];
+    }
+    let mut state = Lent::new(&vec![0; STATE]);
+    assert_eq!(engine::start(&mut state, 1 + r.below(256) as u32, 1 + r.below(65535) as u32), 0);
+    for i in 0..r.below(60) as u32 {
+        let (number, terms) = (r.below(32) as usize, vec![(1, 1), (500, 15)]);
+        engine::frame(&mut state, &Frame::Register { time: i, number, k: 1 + r.below(16) as usize, terms }.bytes());
+        engine::frame(&mut state, &Frame::Message { time: i, serial: i, pairs: vec![(0, 1), (1, 255), (500, 1 + i), (1023, 7)] }.bytes());
+    }
+    let mut bytes = state.bytes().to_vec();
+    if round % 4 == 2 {
+        for _ in 0..200 {
+            let i = r.below(STATE as u64) as usize;
+            bytes[i] = r.next() as u8;
+        }
+    } else {
+        // the five words at the start, and the first ones of slots and records, steer every loop
+        for _ in 0..1 + r.below(20) {
+            let i = match r.below(3) {
+                0 => r.below(5),
+                1 => 5 + 19 * r.below(257) + r.below(4),
+                _ => 4888 + 60 * r.below(32) + r.below(20),
+            } as usize;
+            let word = [0, 1, 16, 17, 255, 256, 257, 1 << 31, u32::MAX - 1, u32::MAX][r.below(10) as usize];
+            bytes[4 * i..4 * i + 4].copy_from_slice(&u32::to_be_bytes(word));
+        }
+    }
+    bytes
+}
+
+/// A frame of each kind, with times at both ends of their range, or any bytes.
+fn frame(r: &mut Random) -> Vec<u8> {
+    let time = [u32::MAX, r.next() as u32, r.below(200) as u32][r.below(3) as usize];
+    let number = r.below(32) as usize;
+    let f = match r.below(5) {
+        0 => Frame::Tick { time },
+        1 => Frame::Register { time, number, k: 1 + r.below(16) as usize, terms: vec![(1, 1), (500, 15)] },
+        2 => Frame::Drop { time, number },
+        3 => Frame::Message { time, serial: r.below(1 << 20) as u32, pairs: vec![(0, 1), (1, 255), (1023, 7)] },
+        _ => {
+            let n = r.pick(4, 256, 45) as usize;
+            return r.bytes(n);
+        }
+    };
+    f.bytes()
+}
+
+/// The writer takes nothing from what its output held before, and leaves what is past the frame.
+#[test]
+fn foreign_output() {
+    let mut r = Random::new(14);
+    for _ in 0..5000 {
+        let kind = r.pick(9, 1 << 32, 5) as u32;
+        let n = 1 + r.below(if kind == 3 { 8 } else { 16 });
+        let mut terms: Vec<u16> = (0..n).map(|_| r.below(1024) as u16).collect();
+        terms.sort_unstable();
+        terms.dedup();
+        let amounts: Vec<u8> = terms.iter().map(|_| 1 + r.below(15) as u8).collect();
+        let (time, serial, number, k) = (r.next() as u32, r.below(1 << 20) as u32, r.below(32) as u32, 1 + r.below(16) as u32);
+        let f = Fields { kind, time, serial, number, k, pairs: terms.len() as u32, terms, amounts };
+        let room = r.below(60) as usize;
+        assert_eq!(engine::write_over(&f, &r.bytes(room)), engine::write(&f, room), "{f:?}");
     }
 }

@@ -1,24 +1,71 @@
 //! Random and hostile sequences of frames: after each one everything is compared with a ranking of the whole log afresh.
-//! FENNELRAKE_SEED picks the seed, FENNELRAKE_ROUNDS how many passages each test runs.
+//! FENNELRAKE_SEED picks the seed, FENNELRAKE_ROUNDS how many passages each test runs: `FENNELRAKE_ROUNDS=50 cargo test --release` is a long run.
 
 use fennelrake_tests::engine::{self, Lent, Reply, STATE};
 use fennelrake_tests::paper::{Frame, Log, Message, Query, TOP};
 use fennelrake_tests::random::Random;
+use fennelrake_tests::source::{Source, Style};
 
 fn setting(name: &str, otherwise: u64) -> u64 {
-    std::env::var(name).ok().and_then(|v| v.parse().ok()).unwrap_or(otherwise)
+    std::env::var(name).map_or(otherwise, |v| v.parse().unwrap_or_else(|_| panic!("{name} must be a number, and is '{v}'")))
+}
+
+/// What passages have to contain for the comparison to mean anything.
+#[derive(Debug, Clone, Copy, PartialEq, Eq)]
+enum Event {
+    SerialUsedAgain,
+    TwoInOneSecond,
+    LeavingAsOneArrives,
+    OldestLeavingForN,
+    SeveralLeavingByATick,
+    FrameHandedAgain,
+    NumberRegisteredAgain,
+    EqualScoresListed,
+    ListFull,
+    ListShort,
+    /// A message arrives or leaves, shares a term with a query and doesn't reach it.
+    Skip,
+}
+
+const EVENTS: [Event; 11] = [
+    Event::SerialUsedAgain,
+    Event::TwoInOneSecond,
+    Event::LeavingAsOneArrives,
+    Event::OldestLeavingForN,
+    Event::SeveralLeavingByATick,
+    Event::FrameHandedAgain,
+    Event::NumberRegisteredAgain,
+    Event::EqualScoresListed,
+    Event::ListFull,
+    Event::ListShort,
+    Event::Skip,
+];
+
+#[derive(Default)]
+struct Met {
+    numbers: [usize; 13],
+    events: [usize; EVENTS.len()],
+}
+
+impl Met {
+    fn note(&mut self, event: Event, met: bool) {
+        self.events[event as usize] += met as usize;
+    }
 }
 
 struct Passage {
     state: Lent,
     log: Log,
+    met: Met,
+    dropped: [bool; 32],
+    last: Vec<u8>,
 }
 
 impl Passage {
     fn new(capacity: u32, life: u32) -> Self {
         let mut state = Lent::new(&vec![0x5a; STATE]);
         assert_eq!(engine::start(&mut state, capacity, life), 0);
-        Passage { state, log: Log::new(capacity as usize, life) }
+        Passage { state, log: Log::new(capacity as usize, life), met: Met::default(), dropped: [false; 32], last: Vec::new() }
     }
 
     /// Hands a frame to both and compares all that is promised of it.
@@ -26,6 +73,9 @@ impl Passage {
         let before = self.state.clone();
         let queries = self.log.queries.clone();
         let reply = engine::frame(&mut self.state, bytes);
+        self.met.numbers[reply.number as usize] += 1;
+        self.met.note(Event::FrameHandedAgain, self.last == bytes);
+        self.last = bytes.to_vec();
         let f = match self.log.judge(bytes) {
             Err(number) => {
                 assert_eq!(reply, Reply { number, marks: 0, departures: 0 }, "{bytes:02x?}");
@@ -40,7 +90,30 @@ impl Passage {
             self.compare_marks(q, &f, &before, queries[q].as_ref(), departed.iter().chain(&arrived), reply.marks >> q & 1 == 1);
             self.compare_kept(q);
         }
+        self.note(&f, &departed, &queries, reply.marks);
         reply
+    }
+
+    fn note(&mut self, f: &Frame, departed: &[Message], queries: &[Option<Query>], marks: u32) {
+        let aged = departed.iter().filter(|m| f.time() - m.time >= self.log.life).count();
+        match f {
+            Frame::Message { serial, time, .. } => {
+                let earlier = &self.log.messages[..self.log.messages.len() - 1];
+                self.met.note(Event::SerialUsedAgain, earlier.iter().any(|m| m.serial == *serial));
+                self.met.note(Event::TwoInOneSecond, earlier.last().is_some_and(|m| m.time == *time));
+                self.met.note(Event::LeavingAsOneArrives, aged > 0);
+                self.met.note(Event::OldestLeavingForN, departed.len() > aged);
+            }
+            Frame::Tick { .. } => self.met.note(Event::SeveralLeavingByATick, aged > 1),
+            Frame::Register { number, .. } => self.met.note(Event::NumberRegisteredAgain, self.dropped[*number]),
+            Frame::Drop { number, .. } => self.dropped[*number] = true,
+        }
+        let moved: Vec<&Message> = departed.iter().chain(self.log.messages.last().filter(|_| matches!(f, Frame::Message { .. }))).collect();
+        for q in 0..32 {
+            if let (Some(query), false) = (&queries[q], marks >> q & 1 == 1) {
+                self.met.note(Event::Skip, moved.iter().any(|m| m.score(query) > 0));
+            }
+        }
     }
 
     fn compare_marks<'a>(&self, q: usize, f: &Frame, before: &Lent, query: Option<&Query>, mut moved: impl Iterator<Item = &'a Message>, marked: bool) {
@@ -55,7 +128,7 @@ impl Passage {
         }
     }
 
-    fn compare_kept(&self, q: usize) {
+    fn compare_kept(&mut self, q: usize) {
         let kept = engine::kept(self.state.bytes(), q);
         let Some(query) = &self.log.queries[q] else {
             assert!(engine::record(self.state.bytes(), q).iter().all(|&b| b == 0), "query {q} isn't in use");
@@ -67,6 +140,9 @@ impl Passage {
         assert_eq!(engine::list(&self.state, q as u32).as_deref(), Ok(&ranking[..]), "list of query {q}");
         let above: Vec<u32> = self.log.in_force().iter().filter(|m| m.exceeds(query, &kept.thresholds)).map(|m| m.serial).collect();
         assert_eq!(kept.candidates, above, "candidates of query {q}");
+        self.met.note(Event::EqualScoresListed, ranking.windows(2).any(|w| w[0].1 == w[1].1));
+        self.met.note(Event::ListShort, ranking.len() < query.k);
+        self.met.note(Event::ListFull, ranking.len() == query.k);
         let sum: u64 = query.terms.iter().zip(&kept.thresholds).map(|(t, &h)| t.1 as u64 * h as u64).sum();
         if ranking.len() < query.k {
             assert!(kept.thresholds.iter().all(|&h| h == 0), "a short list has thresholds");
@@ -89,104 +165,70 @@ impl Passage {
     }
 }
 
-/// What a passage is made of.
-struct Style {
-    capacity: u32,
-    life: u32,
-    terms: u64,
-    counts: u64,
-    serials: u64,
-    queries: u64,
-    step: u64,
-}
+const ROUNDS: u64 = 2;
 
-fn rising(r: &mut Random, most: u64, terms: u64, amount: impl Fn(&mut Random) -> u32) -> Vec<(u32, u32)> {
-    let n = 1 + r.below(most.min(terms));
-    let mut ts: Vec<u32> = (0..n).map(|_| r.below(terms) as u32).collect();
-    ts.sort_unstable();
-    ts.dedup();
-    ts.into_iter().map(|t| (t, amount(r))).collect()
-}
-
-fn any_frame(r: &mut Random, s: &Style, clock: u32) -> Vec<u8> {
-    let time = match r.below(20) {
-        0 => clock.saturating_sub(r.below(5) as u32),
-        1 => clock.saturating_add(s.life - 1),
-        2 => clock.saturating_add(s.life),
-        _ => clock.saturating_add(r.below(s.step + 1) as u32),
-    };
-    let number = r.below(s.queries) as usize;
-    let f = match r.below(24) {
-        0 | 1 => Frame::Tick { time },
-        2..=4 => Frame::Register { time, number, k: 1 + r.below(16) as usize, terms: rising(r, 8, s.terms, |r| 1 + r.below(15) as u32) },
-        5 => Frame::Drop { time, number },
-        _ => Frame::Message { time, serial: r.below(s.serials) as u32, pairs: rising(r, 16, s.terms, |r| 1 + r.below(s.counts) as u32) },
-    };
-    let mut bytes = f.bytes();
-    match r.below(40) {
-        0 => bytes.truncate(r.below(bytes.len() as u64 + 1) as usize),
-        1 => bytes.push(r.next() as u8),
-        2 => {
-            let i = r.below(bytes.len() as u64) as usize;
-            bytes[i] ^= 1 << r.below(8);
-        }
-        3 => {
-            let n = r.below(90) as usize;
-            bytes = r.bytes(n);
-        }
-        _ => {}
-    }
-    bytes
-}
-
-fn run(style: Style, frames: usize, seed: u64) {
-    let rounds = setting("FENNELRAKE_ROUNDS", 2);
-    let seed = setting("FENNELRAKE_SEED", seed);
-    let mut met = [0usize; 13];
+/// Every number from 1 to 10 must be met, and every event but those that the style rules out. With another seed or fewer rounds a rare event may be
+/// missing, so there events aren't asked for.
+fn run(style: Style, frames: usize, own_seed: u64, ruled_out: &[Event]) {
+    let rounds = setting("FENNELRAKE_ROUNDS", ROUNDS).max(1);
+    let seed = setting("FENNELRAKE_SEED", own_seed);
+    let mut met = Met::default();
     for round in 0..rounds {
         println!("seed {seed}, round {round}");
-        let mut r = Random::new(seed + round);
+        let mut source = Source::new(style, seed.wrapping_add(round));
+        let mut r = Random::new(!seed.wrapping_add(round));
         let mut p = Passage::new(style.capacity, style.life);
         for _ in 0..frames {
-            let bytes = any_frame(&mut r, &style, p.log.clock);
-            met[p.hand(&bytes).number as usize] += 1;
+            let bytes = source.next(&p.log);
+            p.hand(&bytes);
             if r.one_in(8) {
                 p.compare_postings(r.below(style.terms) as u32);
             }
         }
+        met.numbers.iter_mut().zip(p.met.numbers).for_each(|(all, one)| *all += one);
+        met.events.iter_mut().zip(p.met.events).for_each(|(all, one)| *all += one);
     }
-    println!("numbers met: {met:?}");
-    assert!(met[0] > frames / 4, "too few frames were accepted for the test to mean anything: {met:?}");
+    println!("numbers met: {:?}, events: {:?}", met.numbers, EVENTS.iter().zip(met.events).collect::<Vec<_>>());
+    assert!(met.numbers[0] > rounds as usize * frames / 3, "too few frames were accepted for the test to mean anything: {:?}", met.numbers);
+    for number in 1..=10 {
+        assert!(met.numbers[number] > 0, "no frame was refused under {number}: {:?}", met.numbers);
+    }
+    if seed == own_seed && rounds >= ROUNDS {
+        for event in EVENTS.into_iter().filter(|e| !ruled_out.contains(e)) {
+            assert!(met.events[event as usize] > 0, "{event:?} wasn't met");
+        }
+    }
 }
 
 #[test]
 fn ordinary() {
-    run(Style { capacity: 64, life: 200, terms: 40, counts: 9, serials: 4000, queries: 32, step: 3 }, 1500, 1);
+    run(Style { capacity: 64, life: 200, terms: 40, counts: 9, serials: 4000, queries: 32, step: 3, jump: 60 }, 1500, 1, &[]);
 }
 
 #[test]
 fn one_message_in_force() {
-    run(Style { capacity: 1, life: 50, terms: 6, counts: 3, serials: 4, queries: 8, step: 4 }, 1200, 2);
+    let ruled_out = [Event::SeveralLeavingByATick, Event::EqualScoresListed, Event::Skip];
+    run(Style { capacity: 1, life: 50, terms: 6, counts: 3, serials: 4, queries: 8, step: 4, jump: 10 }, 1200, 2, &ruled_out);
 }
 
 #[test]
 fn a_full_ring() {
-    run(Style { capacity: 256, life: 65535, terms: 12, counts: 4, serials: 1 << 20, queries: 6, step: 1 }, 1500, 3);
+    run(Style { capacity: 256, life: 65535, terms: 12, counts: 4, serials: 1 << 20, queries: 6, step: 1, jump: 200 }, 1500, 3, &[]);
 }
 
 #[test]
 fn one_second_of_life() {
-    run(Style { capacity: 256, life: 1, terms: 8, counts: 3, serials: 60, queries: 12, step: 1 }, 1500, 4);
+    run(Style { capacity: 256, life: 1, terms: 8, counts: 3, serials: 60, queries: 12, step: 1, jump: 10 }, 1500, 4, &[Event::OldestLeavingForN]);
 }
 
 #[test]
 fn ties() {
-    run(Style { capacity: 40, life: 300, terms: 2, counts: 1, serials: 500, queries: 10, step: 2 }, 1500, 5);
+    run(Style { capacity: 40, life: 300, terms: 2, counts: 1, serials: 500, queries: 10, step: 2, jump: 60 }, 1500, 5, &[]);
 }
 
 #[test]
 fn extreme_counts() {
-    run(Style { capacity: 100, life: 1000, terms: 1024, counts: 255, serials: 1 << 20, queries: 32, step: 9 }, 1500, 6);
+    run(Style { capacity: 100, life: 1000, terms: 1024, counts: 255, serials: 1 << 20, queries: 32, step: 9, jump: 60 }, 1500, 6, &[]);
 }
 
 #[test]

@@ -3,30 +3,33 @@
 use passage::text::Passage;
 use std::io::{Read, Write};
 
+const USAGE: &str = "usage: passage < TEXT > INPUT, or passage --text < INPUT > TEXT";
+
+fn run(back: bool) -> Result<(), String> {
+    let mut input = Vec::new();
+    std::io::stdin().read_to_end(&mut input).map_err(|e| format!("standard input can't be read: {e}"))?;
+    let output = if back {
+        let cut = format!("the header is cut: it takes 3 bytes, and there are {}", input.len());
+        Passage::from_input(&input).ok_or(cut)?.show().into_bytes()
+    } else {
+        Passage::parse_bytes(&input).map_err(|w| format!("line {}: {}", w.line, w.what))?.input()
+    };
+    let mut out = std::io::stdout();
+    out.write_all(&output).and_then(|()| out.flush()).map_err(|e| format!("standard output can't be written: {e}"))
+}
+
 fn main() {
-    let back = match std::env::args().nth(1).as_deref() {
-        None => false,
-        Some("--text") => true,
-        Some(_) => {
-            eprintln!("usage: passage < TEXT > INPUT, or passage --text < INPUT > TEXT");
+    let args: Vec<_> = std::env::args_os().skip(1).collect();
+    let back = match args.as_slice() {
+        [] => false,
+        [one] if one == "--text" => true,
+        _ => {
+            eprintln!("{USAGE}");
             std::process::exit(2);
         }
     };
-    let mut input = Vec::new();
-    std::io::stdin().read_to_end(&mut input).expect("standard input can't be read");
-    let output = if back {
-        Passage::from_input(&input).map(|p| p.show().into_bytes()).ok_or("the header is cut".to_string())
-    } else {
-        match String::from_utf8(input) {
-            Err(_) => Err("the text isn't UTF-8".to_string()),
-            Ok(text) => Passage::parse(&text).map(|p| p.input()).map_err(|w| format!("line {}: {}", w.line, w.what)),
-        }
-    };
-    match output {
-        Ok(bytes) => std::io::stdout().write_all(&bytes).expect("standard output can't be written"),
-        Err(what) => {
-            eprintln!("passage: {what}");
-            std::process::exit(1);
-        }
+    if let Err(what) = run(back) {
+        eprintln!("passage: {what}");
+        std::process::exit(1);
     }
 }

@@ -28,28 +28,46 @@ pub struct Wrong {
     pub what: String,
 }
 
+/// A word as messages show it: signs that can't be seen are written out.
+fn shown(word: &str) -> String {
+    format!("'{}'", word.escape_debug())
+}
+
+/// Decimal digits alone; Rust's own reading would take a plus sign too.
+fn decimal(word: &str) -> Option<u64> {
+    word.bytes().all(|b| b.is_ascii_digit()).then(|| word.parse().ok()).flatten()
+}
+
 fn number(words: &mut std::slice::Iter<&str>, name: &str, least: u64, most: u64) -> Result<u64, String> {
     let word = words.next().ok_or(format!("{name} is missing"))?;
-    match word.parse() {
-        Ok(n) if (least..=most).contains(&n) => Ok(n),
-        _ => Err(format!("{name} must be a number from {least} to {most}, and is '{word}'")),
+    match decimal(word) {
+        Some(n) if (least..=most).contains(&n) => Ok(n),
+        _ => Err(format!("{name} must be a number from {least} to {most}, and is {}", shown(word))),
     }
 }
 
 fn keyword(words: &mut std::slice::Iter<&str>, want: &str) -> Result<(), String> {
     match words.next() {
         Some(word) if *word == want => Ok(()),
-        other => Err(format!("'{want}' is expected, and there is '{}'", other.unwrap_or(&""))),
+        Some(word) => Err(format!("'{want}' is expected, and there is {}", shown(word))),
+        None => Err(format!("'{want}' is missing")),
+    }
+}
+
+fn nothing_more(words: &mut std::slice::Iter<&str>) -> Result<(), String> {
+    match words.next() {
+        Some(word) => Err(format!("the line should end, and there is {}", shown(word))),
+        None => Ok(()),
     }
 }
 
 fn pairs(words: &mut std::slice::Iter<&str>, most: usize, name: &str, top: u32) -> Result<Vec<(u32, u32)>, String> {
     let mut ps: Vec<(u32, u32)> = Vec::new();
     for word in words {
-        let (t, a) = word.split_once(':').ok_or(format!("a pair term:{name} is expected, and there is '{word}'"))?;
-        let (t, a) = match (t.parse(), a.parse()) {
-            (Ok(t), Ok(a)) if t <= 1023 && (1..=top).contains(&a) => (t, a),
-            _ => return Err(format!("a pair is a term 0 to 1023 and a {name} 1 to {top}, and there is '{word}'")),
+        let (t, a) = word.split_once(':').ok_or(format!("a pair term:{name} is expected, and there is {}", shown(word)))?;
+        let (t, a) = match (decimal(t), decimal(a)) {
+            (Some(t), Some(a)) if t <= 1023 && (1..=top as u64).contains(&a) => (t as u32, a as u32),
+            _ => return Err(format!("a pair is a term 0 to 1023 and a {name} 1 to {top}, and there is {}", shown(word))),
         };
         if ps.last().is_some_and(|p| p.0 >= t) {
             return Err(format!("terms must rise, and {t} follows {}", ps.last().unwrap().0));
@@ -62,14 +80,22 @@ fn pairs(words: &mut std::slice::Iter<&str>, most: usize, name: &str, top: u32) 
     Ok(ps)
 }
 
+fn byte(word: &str) -> Result<u8, String> {
+    if word.len() == 2 && word.bytes().all(|b| b.is_ascii_hexdigit()) {
+        Ok(u8::from_str_radix(word, 16).unwrap())
+    } else {
+        Err(format!("a byte is two hexadecimal digits, and there is {}", shown(word)))
+    }
+}
+
 fn frame(words: &[&str]) -> Result<Vec<u8>, String> {
     let mut w = words.iter();
     let kind = *w.next().unwrap();
     if kind == "bytes" {
-        return w.map(|b| u8::from_str_radix(b, 16).map_err(|_| format!("'{b}' is no byte"))).collect();
+        return w.map(|b| byte(b)).collect();
     }
     if !["message", "tick", "register", "drop"].contains(&kind) {
-        return Err(format!("'{kind}' is no kind of frame: message, tick, register, drop or bytes"));
+        return Err(format!("{} is no kind of frame: message, tick, register, drop or bytes", shown(kind)));
     }
     let time = number(&mut w, "the time", 0, u32::MAX as u64)? as u32;
     let f = match kind {
@@ -91,13 +117,34 @@ fn frame(words: &[&str]) -> Result<Vec<u8>, String> {
             Frame::Drop { time, number: number(&mut w, "the query", 0, 31)? as usize }
         }
     };
-    match w.next() {
-        Some(word) => Err(format!("'{word}' is more than the frame has")),
-        None => Ok(f.bytes()),
+    nothing_more(&mut w)?;
+    Ok(f.bytes())
+}
+
+/// N and T.
+fn engine(words: &[&str]) -> Result<(u32, u32), String> {
+    let mut w = words.iter();
+    if *w.next().unwrap() != "engine" {
+        return Err(format!("the first line is 'engine N T', and there is {}", shown(words[0])));
     }
+    let capacity = number(&mut w, "N", 1, 256)? as u32;
+    let life = number(&mut w, "T", 0, 65535)? as u32;
+    nothing_more(&mut w)?;
+    Ok((capacity, life))
 }
 
 impl Passage {
+    /// The passage that bytes are as text.
+    pub fn parse_bytes(bytes: &[u8]) -> Result<Passage, Wrong> {
+        match std::str::from_utf8(bytes) {
+            Ok(text) => Passage::parse(text),
+            Err(e) => {
+                let line = bytes[..e.valid_up_to()].iter().filter(|&&b| b == b'\n').count() + 1;
+                Err(Wrong { line, what: "the text isn't UTF-8".into() })
+            }
+        }
+    }
+
     pub fn parse(text: &str) -> Result<Passage, Wrong> {
         let mut passage = None;
         for (i, whole) in text.lines().enumerate() {
@@ -108,16 +155,13 @@ impl Passage {
             }
             match &mut passage {
                 None => {
-                    let mut w = words.iter();
-                    keyword(&mut w, "engine").map_err(wrong)?;
-                    let capacity = number(&mut w, "N", 1, 256).map_err(wrong)? as u32;
-                    let life = number(&mut w, "T", 0, 65535).map_err(wrong)? as u32;
+                    let (capacity, life) = engine(&words).map_err(wrong)?;
                     passage = Some(Passage { capacity, life, frames: Vec::new() });
                 }
                 Some(p) => {
                     let bytes = frame(&words).map_err(wrong)?;
                     if bytes.len() > 255 {
-                        return Err(wrong("a session's frame has at most 255 bytes".into()));
+                        return Err(wrong(format!("a session's frame has at most 255 bytes, and there are {}", bytes.len())));
                     }
                     p.frames.push(bytes);
                 }

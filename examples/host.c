@@ -1,0 +1,121 @@
+/*
+ * A host: it lends an engine its memory, writes the frames of a passage, hands them over, and prints what it hears.
+ *
+ *   cc -std=c99 host.c $(pkg-config --cflags --libs fennelrake) -o host && ./host
+ *
+ * The passage is C10 of the document that describes the ranker: at most 3 messages in force, for 100 seconds each. The lines printed are the
+ * document's:
+ *
+ *   ordinal, number, marks, departures      for each frame
+ *   Q, query, entries, serial and score ..  after it, for each marked query that is still registered
+ *
+ * and one more after each frame, of what a training board shows beside the lists:
+ *
+ *   P, term, postings, serial and impact .. for term 5
+ */
+#include <fennelrake.h>
+
+#include <stdio.h>
+#include <stdlib.h>
+
+/* The fields of a frame; those that its kind doesn't have are 0. */
+struct fields {
+    uint32_t kind, time, serial, number, k, pairs;
+    uint16_t terms[FENNELRAKE_MOST_PAIRS];
+    uint8_t amounts[FENNELRAKE_MOST_PAIRS]; /* the counts of a message, the weights of a query */
+};
+
+static const struct fields passage[] = {
+    /* query 0, the best 2 messages: term 5 with weight 1, term 9 with weight 2 */
+    {FENNELRAKE_REGISTER, 0, 0, 0, 2, 2, {5, 9}, {1, 2}},
+    /* serial 1 has term 5 three times and term 9 four times; and so on */
+    {FENNELRAKE_MESSAGE, 10, 1, 0, 0, 2, {5, 9}, {3, 4}},
+    {FENNELRAKE_MESSAGE, 20, 2, 0, 0, 1, {5}, {1}},
+    {FENNELRAKE_MESSAGE, 30, 3, 0, 0, 2, {9, 40}, {1, 1}},
+    /* the fourth message is one more than can be in force: serial 1 leaves */
+    {FENNELRAKE_MESSAGE, 40, 4, 0, 0, 2, {5, 6}, {1, 2}},
+    /* the clock moves on to 120, and serial 2, of time 20, is 100 seconds old and leaves */
+    {FENNELRAKE_TICK, 120, 0, 0, 0, 0, {0}, {0}},
+    /* a time before the clock: refused as 7, and nothing changes */
+    {FENNELRAKE_MESSAGE, 119, 9, 0, 0, 1, {5}, {1}},
+};
+
+/* Writes a frame into out. Returns its length, or ends the program: fields that can't be written are a mistake in the table above. */
+static size_t write_frame(const struct fields *f, uint8_t *out, size_t out_length)
+{
+    uint8_t terms[2 * FENNELRAKE_MOST_PAIRS] = {0};
+    uint64_t written;
+    size_t i;
+
+    for (i = 0; i < FENNELRAKE_MOST_PAIRS; i++)
+        fennelrake_put_term(terms, i, f->terms[i]);
+    written = fennelrake_write(f->kind, f->time, f->serial, f->number, f->k, f->pairs, terms, sizeof terms, f->amounts, sizeof f->amounts, out,
+                               out_length);
+    if (fennelrake_number(written) != FENNELRAKE_ACCEPTED) {
+        fprintf(stderr, "host: the writer refuses a frame as %u\n", fennelrake_number(written));
+        exit(1);
+    }
+    return fennelrake_size(written);
+}
+
+static void print_list(const uint8_t *state, uint32_t query)
+{
+    uint8_t list[FENNELRAKE_LIST_ANSWER_SIZE] = {0};
+    size_t i;
+
+    /* a dropped query is marked too, and has no list: reading it is refused as 10 */
+    if (fennelrake_list(state, FENNELRAKE_STATE_SIZE, query, list, sizeof list) != FENNELRAKE_ACCEPTED)
+        return;
+    printf("Q %u %u", query, fennelrake_list_count(list));
+    for (i = 0; i < fennelrake_list_count(list); i++)
+        printf(" %u %u", fennelrake_list_serial(list, i), fennelrake_list_score(list, i));
+    printf("\n");
+}
+
+static void print_postings(const uint8_t *state, uint32_t term)
+{
+    uint8_t out[FENNELRAKE_POSTINGS_SIZE] = {0};
+    uint64_t found = fennelrake_postings(state, FENNELRAKE_STATE_SIZE, term, out, sizeof out);
+    size_t i;
+
+    /* a refusal finds none */
+    printf("P %u %u", term, fennelrake_size(found));
+    for (i = 0; i < fennelrake_size(found); i++)
+        printf(" %u %u", fennelrake_posting_serial(out, i), fennelrake_posting_impact(out, i));
+    printf("\n");
+}
+
+int main(void)
+{
+    /* One memory is one engine. It belongs to the engine until the host frees it: read it by the calls alone, and don't write it. */
+    uint8_t *state = calloc(1, FENNELRAKE_STATE_SIZE);
+    uint32_t number;
+    size_t i;
+
+    if (state == NULL) {
+        fprintf(stderr, "host: no memory\n");
+        return 1;
+    }
+    number = fennelrake_start(state, FENNELRAKE_STATE_SIZE, 3, 100);
+    if (number != FENNELRAKE_ACCEPTED) {
+        fprintf(stderr, "host: the start is refused as %u\n", number);
+        free(state);
+        return 1;
+    }
+    for (i = 0; i < sizeof passage / sizeof passage[0]; i++) {
+        uint8_t frame[FENNELRAKE_LONGEST_FRAME] = {0};
+        uint8_t answer[FENNELRAKE_FRAME_ANSWER_SIZE] = {0};
+        size_t length = write_frame(&passage[i], frame, sizeof frame);
+        uint32_t q;
+
+        /* a refusal leaves the answer as it was: no marks and no departures, by its first value */
+        number = fennelrake_frame(state, FENNELRAKE_STATE_SIZE, frame, length, answer, sizeof answer);
+        printf("%u %u %08x %u\n", (unsigned)i + 1, number, fennelrake_marks(answer), fennelrake_departures(answer));
+        for (q = 0; q < FENNELRAKE_QUERIES; q++)
+            if (fennelrake_marked(answer, q))
+                print_list(state, q);
+        print_postings(state, 5);
+    }
+    free(state);
+    return 0;
+}

@@ -1,0 +1,259 @@
+/*
+ * Fennelrake: the message ranker of a ship's docking display, for hosts written in C.
+ *
+ * The host lends memory. An engine in it takes frames (messages, clock ticks, registrations and drops of queries) and keeps, for each registered
+ * query, the ranked list of the best messages in force. Nothing is allocated, no file is read or written, and the archive keeps no memory of its
+ * own between calls: one memory is one engine. Forty boards are forty memories, and calls on different memories may run at the same time.
+ *
+ * In every call a slice is a pointer to bytes and their number. It may stand at any address. Where the number is 0 the pointer may be null.
+ * In what a call writes into lent bytes, a number takes four bytes, the most significant first; the readers at the end of this file take them out.
+ *
+ * A call is accepted, and returns 0, or is refused under the first number that applies, in the order given with each call. A refusal changes
+ * nothing: not the state, not a byte of the output. Bytes past what a call writes are never changed either.
+ *
+ * What a host must not do:
+ *   - lend a slice that a call writes and that overlaps another slice of the same call;
+ *   - make two calls at once on one memory;
+ *   - write the state memory between calls, but by a new start. (It may be copied or moved as a whole: it holds no address.)
+ *   - lend a null pointer with a number of bytes other than 0, or more bytes than there are;
+ *   - lend bytes that were never given a value: static memory, calloc or '= {0}' will do. The writer puts single bits into its output, and a
+ *     checker of memory reports such bytes.
+ * Everything else is judged by the calls themselves; no argument needs a check before.
+ *
+ * State memory of the right length that no sequence of calls left there (a start never made, a damaged copy) is foreign. Calls on it are safe: they
+ * end, and write nothing outside it and the lent output. Nothing more is fixed: not what they return, and not what they write there.
+ */
+#ifndef FENNELRAKE_H
+#define FENNELRAKE_H
+
+#include <stddef.h>
+#include <stdint.h>
+
+#ifdef __cplusplus
+extern "C" {
+#endif
+
+/* ---- sizes in bytes */
+
+#define FENNELRAKE_STATE_SIZE 27232       /* the state memory: exactly so long */
+#define FENNELRAKE_FRAME_ANSWER_SIZE 8    /* what fennelrake_frame writes */
+#define FENNELRAKE_LIST_ANSWER_SIZE 132   /* what fennelrake_list writes */
+#define FENNELRAKE_POSTING_SIZE 8         /* what fennelrake_postings writes for each posting */
+#define FENNELRAKE_MOST_POSTINGS 256      /* no term has more postings */
+#define FENNELRAKE_POSTINGS_SIZE 2048     /* enough for the postings of any term */
+#define FENNELRAKE_LONGEST_FRAME 44       /* enough for fennelrake_write, whatever the frame */
+
+/* ---- ranges */
+
+#define FENNELRAKE_MOST_MESSAGES 256      /* N, the messages in force, is 1 to this */
+#define FENNELRAKE_LONGEST_LIFE 65535     /* T, the seconds that a message is in force, is 1 to this */
+#define FENNELRAKE_SERIALS 1048576        /* serials are below this */
+#define FENNELRAKE_QUERIES 32             /* query numbers are below this */
+#define FENNELRAKE_LIST_PLACES 16         /* k, the length of a list, is 1 to this */
+#define FENNELRAKE_TERMS 1024             /* terms are below this */
+#define FENNELRAKE_MOST_PAIRS 16          /* a message has 1 to this many pairs of term and count */
+#define FENNELRAKE_MOST_COUNT 255         /* counts are 1 to this */
+#define FENNELRAKE_MOST_QUERY_TERMS 8     /* a query has 1 to this many pairs of term and weight */
+#define FENNELRAKE_MOST_WEIGHT 15         /* weights are 1 to this */
+#define FENNELRAKE_TOP_IMPACT 1000        /* impacts are 0 to this */
+
+/* ---- kinds of frame */
+
+enum {
+    FENNELRAKE_MESSAGE = 1,
+    FENNELRAKE_TICK = 2,
+    FENNELRAKE_REGISTER = 3,
+    FENNELRAKE_DROP = 4
+};
+
+/* ---- what a call returns */
+
+enum {
+    FENNELRAKE_ACCEPTED = 0,
+    FENNELRAKE_REFUSED_SHORT = 1,       /* a frame of fewer than 5 bytes */
+    FENNELRAKE_REFUSED_KIND = 2,        /* the kind is none of the four */
+    FENNELRAKE_REFUSED_LENGTH = 3,      /* a frame longer or shorter than its fields need */
+    FENNELRAKE_REFUSED_FILL = 4,        /* a bit after the frame's last field is one */
+    FENNELRAKE_REFUSED_VALUE = 5,       /* a count or weight of 0; in writer and readings a value outside its range */
+    FENNELRAKE_REFUSED_ORDER = 6,       /* terms that don't rise from pair to pair */
+    FENNELRAKE_REFUSED_TIME = 7,        /* a time below the clock */
+    FENNELRAKE_REFUSED_SERIAL = 8,      /* the serial of a message in force */
+    FENNELRAKE_REFUSED_IN_USE = 9,      /* a registration under a number in use */
+    FENNELRAKE_REFUSED_NOT_IN_USE = 10, /* a drop or reading of a number not in use, numbers above 31 included */
+    FENNELRAKE_REFUSED_START = 11,      /* N or T outside its range */
+    FENNELRAKE_REFUSED_MEMORY = 12      /* state memory not of its length, or output shorter than needed */
+};
+
+/* ---- the calls */
+
+/*
+ * Makes the state memory a fresh engine: no message, no query, clock 0. At most `capacity` messages (N) are in force at once, each for `life`
+ * seconds (T). What the memory held before doesn't matter. Writes the whole state memory.
+ *
+ * Refusals, in this order:
+ *   11  capacity not 1 to 256, or life not 1 to 65535
+ *   12  state_length is not FENNELRAKE_STATE_SIZE
+ */
+uint32_t fennelrake_start(uint8_t *state, size_t state_length, uint32_t capacity, uint32_t life);
+
+/*
+ * Hands a frame to the engine. Accepted, its time becomes the clock, and messages that have reached the age of T seconds leave. Then a message
+ * joins (the oldest leaving where N are in force), a query is registered, or one is dropped; a tick does no more. Every list is up to date when
+ * the call returns.
+ *
+ * Writes FENNELRAKE_FRAME_ANSWER_SIZE bytes: the marks and the departures. Bit q of the marks (worth 2 to the q) is set exactly where the frame
+ * registers or drops query q, or a message that arrives or leaves has, in one of the query's terms, an impact above the threshold that the engine
+ * kept for it. The list of a query that isn't marked is as it was; that of a marked one may have changed. Departures are how many messages were in
+ * force before the frame and aren't after it.
+ *
+ * Refusals, in this order; a refused frame doesn't move the clock:
+ *   12  state_length is not FENNELRAKE_STATE_SIZE, or answer_length is below FENNELRAKE_FRAME_ANSWER_SIZE
+ *    1  fewer than 5 bytes
+ *    2  a kind other than the four
+ *    3  not as many bytes as the fields need, or too few to tell
+ *    4  a bit after the last field is one
+ *    5  a count or a weight, of any pair, is 0
+ *    6  terms don't rise
+ *    7  the time is below the clock
+ *    8  the serial is that of a message in force at the frame's time, even of one that would leave for N
+ *    9  the number to register is in use
+ *   10  the number to drop isn't in use
+ *
+ * A frame's bits, the most significant of each byte first; zero bits fill up the last byte. fennelrake_write makes them from the fields.
+ *   message   4 kind (1), 32 time, 20 serial, 4 pairs less one, then for each pair 10 term, 8 count
+ *   tick      4 kind (2), 32 time
+ *   register  4 kind (3), 32 time, 5 number, 4 k less one, 3 pairs less one, then for each pair 10 term, 4 weight
+ *   drop      4 kind (4), 32 time, 5 number
+ */
+uint32_t fennelrake_frame(uint8_t *state, size_t state_length, const uint8_t *bytes, size_t bytes_length, uint8_t *answer, size_t answer_length);
+
+/*
+ * Reads the list of query `number`: the k best messages in force of positive score, or all where fewer have one; higher scores first, and among
+ * equal ones the later message. The score is the sum, over the query's terms, of weight times the term's impact in the message.
+ *
+ * Writes FENNELRAKE_LIST_ANSWER_SIZE bytes: how many entries there are, 16 serials, 16 scores. Places past the entries are 0. The state isn't
+ * written.
+ *
+ * Refusals, in this order:
+ *   12  state_length is not FENNELRAKE_STATE_SIZE, or answer_length is below FENNELRAKE_LIST_ANSWER_SIZE
+ *   10  no query is registered under this number, or it is above 31
+ */
+uint32_t fennelrake_list(const uint8_t *state, size_t state_length, uint32_t number, uint8_t *answer, size_t answer_length);
+
+/*
+ * Reads the postings of a term: the messages in force that have it, higher impacts first, and among equal ones the later message. The impact of a
+ * term with count f in a message whose counts squared sum to n is the greatest whole w with w * w * n at most (1000 * f) * (1000 * f).
+ *
+ * Writes FENNELRAKE_POSTING_SIZE bytes for each posting: serial and impact. The state isn't written. FENNELRAKE_POSTINGS_SIZE bytes are always
+ * enough; with fewer, it depends on how many postings there are.
+ *
+ * Returns number times 2 to the 32, plus how many postings there are (0 with a refusal): see fennelrake_number and fennelrake_size.
+ *
+ * Refusals, in this order:
+ *   12  state_length is not FENNELRAKE_STATE_SIZE
+ *    5  a term above 1023
+ *   12  out_length is below FENNELRAKE_POSTING_SIZE times the number of postings
+ */
+uint64_t fennelrake_postings(const uint8_t *state, size_t state_length, uint32_t term, uint8_t *out, size_t out_length);
+
+/*
+ * Writes the frame with these fields into out. Only the fields of the kind are looked at:
+ *   FENNELRAKE_MESSAGE   time, serial, pairs, terms, amounts (counts)
+ *   FENNELRAKE_TICK      time
+ *   FENNELRAKE_REGISTER  time, number, k, pairs, terms, amounts (weights)
+ *   FENNELRAKE_DROP      time, number
+ * The others may be anything; slices that aren't looked at may be null with length 0.
+ *
+ * Terms are two bytes each, the higher byte first (fennelrake_put_term puts one); amounts are one byte each. The first `pairs` of both are the
+ * frame's pairs, and what follows them isn't looked at. terms_length is a number of bytes: at least two times `pairs`.
+ *
+ * Returns number times 2 to the 32, plus the frame's length in bytes (0 with a refusal): see fennelrake_number and fennelrake_size. Writes as many
+ * bytes. No engine is asked: whether time, serial and number suit one is judged when the frame is handed to it.
+ *
+ * Refusals, in this order:
+ *    2  a kind other than the four
+ *    5  a value outside its range: serial above 1048575; number above 31; k not 1 to 16; pairs not 1 to 16 in a message or 1 to 8 in a
+ *       registration, or more than the terms or the amounts lent (a last odd byte of terms is no term); and in any pair a term above 1023, a
+ *       count of 0, a weight not 1 to 15. A time may be any number.
+ *    6  terms don't rise
+ *   12  out_length is below the frame's length; FENNELRAKE_LONGEST_FRAME bytes are always enough
+ */
+uint64_t fennelrake_write(uint32_t kind, uint32_t time, uint32_t serial, uint32_t number, uint32_t k, uint32_t pairs,
+                          const uint8_t *terms, size_t terms_length, const uint8_t *amounts, size_t amounts_length,
+                          uint8_t *out, size_t out_length);
+
+/* ---- readers of what a call returned or wrote; of lent bytes only where the call was accepted */
+
+/* The number from fennelrake_postings and fennelrake_write: 0, or the refusal. */
+static inline uint32_t fennelrake_number(uint64_t returned)
+{
+    return (uint32_t)(returned >> 32);
+}
+
+/* How many postings there are; the length of the frame written. */
+static inline uint32_t fennelrake_size(uint64_t returned)
+{
+    return (uint32_t)(returned & UINT32_MAX);
+}
+
+/* The four bytes at `bytes` as a number. */
+static inline uint32_t fennelrake_word(const uint8_t *bytes)
+{
+    return bytes[0] * UINT32_C(16777216) + bytes[1] * UINT32_C(65536) + bytes[2] * UINT32_C(256) + bytes[3];
+}
+
+/* The answer of fennelrake_frame: all marks; whether query q is marked (1 or 0); the departures. */
+static inline uint32_t fennelrake_marks(const uint8_t *answer)
+{
+    return fennelrake_word(answer);
+}
+
+static inline int fennelrake_marked(const uint8_t *answer, uint32_t q)
+{
+    return q < FENNELRAKE_QUERIES && (fennelrake_marks(answer) >> q & 1) == 1;
+}
+
+static inline uint32_t fennelrake_departures(const uint8_t *answer)
+{
+    return fennelrake_word(answer + 4);
+}
+
+/* The answer of fennelrake_list: how many entries there are; serial and score of entry i, the best being entry 0, for i below 16. */
+static inline uint32_t fennelrake_list_count(const uint8_t *answer)
+{
+    return fennelrake_word(answer);
+}
+
+static inline uint32_t fennelrake_list_serial(const uint8_t *answer, size_t i)
+{
+    return fennelrake_word(answer + 4 + 4 * i);
+}
+
+static inline uint32_t fennelrake_list_score(const uint8_t *answer, size_t i)
+{
+    return fennelrake_word(answer + 4 + 4 * FENNELRAKE_LIST_PLACES + 4 * i);
+}
+
+/* The output of fennelrake_postings: serial and impact of posting i, the first being posting 0, for i below their number. */
+static inline uint32_t fennelrake_posting_serial(const uint8_t *out, size_t i)
+{
+    return fennelrake_word(out + FENNELRAKE_POSTING_SIZE * i);
+}
+
+static inline uint32_t fennelrake_posting_impact(const uint8_t *out, size_t i)
+{
+    return fennelrake_word(out + FENNELRAKE_POSTING_SIZE * i + 4);
+}
+
+/* Puts a term in place i of the terms for fennelrake_write. */
+static inline void fennelrake_put_term(uint8_t *terms, size_t i, uint16_t term)
+{
+    terms[2 * i] = (uint8_t)(term >> 8);
+    terms[2 * i + 1] = (uint8_t)(term & 255);
+}
+
+#ifdef __cplusplus
+}
+#endif
+
+#endif

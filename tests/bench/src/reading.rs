@@ -1,0 +1,41 @@
+//! The reading of a frame alone: the proved reader, through an engine whose clock is so far ahead that it refuses what it has read, and the plain one.
+
+use crate::plain::{read, Method};
+use crate::proved::Proved;
+use passage::Frame;
+use std::hint::black_box;
+use std::time::Instant;
+
+const CALLS: usize = 20_000;
+const ROUNDS: usize = 40;
+
+/// The nanoseconds that one of many calls takes.
+fn nanoseconds(mut call: impl FnMut()) -> f64 {
+    let t = Instant::now();
+    (0..CALLS).for_each(|_| call());
+    t.elapsed().as_secs_f64() * 1e9 / CALLS as f64
+}
+
+fn pairs(n: u32) -> Vec<(u32, u32)> {
+    (0..n).map(|i| (60 * i + 7, i % 9 + 1)).collect()
+}
+
+pub fn print() {
+    let mut engine = Proved::start(256, 65535);
+    engine.frame(&Frame::Tick { time: u32::MAX }.bytes()).expect("an accepted tick");
+    println!("frame                  proved    plain    ratio");
+    for (name, frame) in [
+        ("message of 16 pairs", Frame::Message { time: 123_456, serial: 98_765, pairs: pairs(16) }),
+        ("message of 8 pairs", Frame::Message { time: 123_456, serial: 98_765, pairs: pairs(8) }),
+        ("tick", Frame::Tick { time: 123_456 }),
+        ("register of 8 terms", Frame::Register { time: 123_456, number: 17, k: 9, terms: pairs(8) }),
+    ] {
+        let bytes = frame.bytes();
+        let (mut proved, mut plain) = (f64::MAX, f64::MAX);
+        for _ in 0..ROUNDS {
+            proved = proved.min(nanoseconds(|| assert_eq!(engine.frame(black_box(&bytes)), Err(7))));
+            plain = plain.min(nanoseconds(|| assert!(black_box(read(black_box(&bytes))).is_ok())));
+        }
+        println!("{name:<19} {proved:>9.1} {plain:>8.1} {:>8.2}", plain / proved);
+    }
+}

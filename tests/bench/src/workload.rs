@@ -1,0 +1,46 @@
+//! The passages that are measured: queries first, then messages a second apart, each pushing the oldest out once N are there.
+
+use fennelrake_tests::random::Random;
+use passage::Frame;
+
+/// How many terms there are in all, and how many of them messages and queries then share.
+pub const SHARED: [(u64, &str); 3] = [(1024, "few"), (400, "some"), (40, "many")];
+
+const SEED: u64 = 7;
+
+#[derive(Clone, Copy)]
+pub struct Setting {
+    pub capacity: usize,
+    pub queries: usize,
+    pub terms: u64,
+}
+
+pub struct Passage {
+    pub setting: Setting,
+    pub life: u32,
+    pub frames: Vec<Vec<u8>>,
+}
+
+/// Up to n terms, each with an amount of 1 to `most`.
+fn rising(r: &mut Random, n: u64, terms: u64, most: u64) -> Vec<(u32, u32)> {
+    let mut ts: Vec<u32> = (0..n).map(|_| r.below(terms) as u32).collect();
+    ts.sort_unstable();
+    ts.dedup();
+    ts.into_iter().map(|t| (t, 1 + r.below(most) as u32)).collect()
+}
+
+impl Passage {
+    pub fn new(setting: Setting, messages: usize) -> Self {
+        let mut r = Random::new(SEED);
+        let mut frames = Vec::new();
+        for number in 0..setting.queries {
+            let (k, n) = (1 + r.below(8) as usize, 1 + r.below(5));
+            frames.push(Frame::Register { time: 0, number, k, terms: rising(&mut r, n, setting.terms, 15) }.bytes());
+        }
+        for i in 0..messages as u32 {
+            let n = 4 + r.below(9);
+            frames.push(Frame::Message { time: i + 1, serial: i, pairs: rising(&mut r, n, setting.terms, 9) }.bytes());
+        }
+        Passage { setting, life: 65535, frames }
+    }
+}

@@ -1,0 +1,602 @@
+/*
+ * Two targets over the archive's entries: 'passage' takes a session's input (N less one, T, then frames after their lengths) and checks after each
+ * frame all that the state memory tells by docs/STATE.md, without a reference; 'foreign' makes state memory that no sequence of calls left.
+ *
+ * The archive isn't instrumented. So each lent slice stands against a page that can't be touched, first with its end and in a second run with its
+ * start (or up to three bytes on, for an odd address), and guard bytes are on its other side.
+ */
+#define _DEFAULT_SOURCE
+#include "fuzz.h"
+
+#include "fennelrake.h"
+
+#include <stdio.h>
+#include <stdlib.h>
+#include <string.h>
+#include <sys/mman.h>
+
+/* ---- what is told where something is wrong */
+
+static unsigned long ordinal;
+
+static void fail(const char *what, int line)
+{
+    fprintf(stderr, "fuzz.c:%d: frame %lu: %s\n", line, ordinal, what);
+    abort();
+}
+
+#define HOLD(condition)                            \
+    do {                                           \
+        if (!(condition))                          \
+            fail("not so: " #condition, __LINE__); \
+    } while (0)
+
+/* ---- lent memory */
+
+enum { PAGE = 4096, GUARD = 64 };
+
+/* Pages between two that can't be touched, and the slice of them that is lent. */
+struct lent {
+    size_t pages;
+    uint8_t *base;
+    uint8_t *bytes;
+    size_t length;
+};
+
+static struct lent state = {7, NULL, NULL, 0};
+static struct lent frame = {1, NULL, NULL, 0};
+static struct lent answer = {1, NULL, NULL, 0};
+static struct lent terms = {1, NULL, NULL, 0};
+static struct lent amounts = {1, NULL, NULL, 0};
+
+/* Whether slices start at the start of their pages, and how many bytes on. */
+static int at_start;
+static size_t moved;
+
+static const uint8_t guards[GUARD] = "what stands on either side of lent bytes is nobody's but a host";
+
+/* How many bytes are free on either side of the slice, as far as they are guards. */
+static size_t before(const struct lent *l)
+{
+    size_t n = (size_t)(l->bytes - l->base);
+    return n < GUARD ? n : GUARD;
+}
+
+static size_t after(const struct lent *l)
+{
+    size_t n = l->pages * PAGE - (size_t)(l->bytes - l->base) - l->length;
+    return n < GUARD ? n : GUARD;
+}
+
+/* Lends so many bytes, all of one value. */
+static void lend(struct lent *l, size_t length, int value)
+{
+    size_t size = l->pages * PAGE;
+    if (l->base == NULL) {
+        uint8_t *all = mmap(NULL, size + 2 * PAGE, PROT_NONE, MAP_PRIVATE | MAP_ANONYMOUS, -1, 0);
+        if (all == MAP_FAILED || mprotect(all + PAGE, size, PROT_READ | PROT_WRITE) != 0) {
+            perror("fuzz");
+            exit(2);
+        }
+        l->base = all + PAGE;
+    }
+    l->length = length;
+    l->bytes = at_start ? l->base + moved : l->base + size - length;
+    memset(l->bytes, value, length);
+    memcpy(l->bytes - before(l), guards, before(l));
+    memcpy(l->bytes + length, guards, after(l));
+}
+
+static void guarded(const struct lent *l)
+{
+    HOLD(memcmp(l->bytes - before(l), guards, before(l)) == 0);
+    HOLD(memcmp(l->bytes + l->length, guards, after(l)) == 0);
+}
+
+static int all_of(const uint8_t *bytes, size_t length, int value)
+{
+    size_t i;
+    for (i = 0; i < length; i++)
+        if (bytes[i] != value)
+            return 0;
+    return 1;
+}
+
+/* ---- the calls, with nothing written but what was lent */
+
+enum { FRESH = 0xa5 };
+
+static uint32_t hand(const uint8_t *bytes, size_t length, size_t room)
+{
+    uint32_t number;
+    lend(&frame, length, 0);
+    if (length > 0)
+        memcpy(frame.bytes, bytes, length);
+    lend(&answer, room, FRESH);
+    number = fennelrake_frame(state.bytes, state.length, frame.bytes, length, answer.bytes, room);
+    guarded(&state);
+    guarded(&frame);
+    guarded(&answer);
+    HOLD(length == 0 || memcmp(frame.bytes, bytes, length) == 0);
+    return number;
+}
+
+static uint32_t list(uint32_t number, size_t room)
+{
+    uint32_t r;
+    lend(&answer, room, FRESH);
+    r = fennelrake_list(state.bytes, state.length, number, answer.bytes, room);
+    guarded(&state);
+    guarded(&answer);
+    return r;
+}
+
+static uint64_t postings(uint32_t term, size_t room)
+{
+    uint64_t r;
+    lend(&answer, room, FRESH);
+    r = fennelrake_postings(state.bytes, state.length, term, answer.bytes, room);
+    guarded(&state);
+    guarded(&answer);
+    return r;
+}
+
+/* ---- what the state memory keeps (docs/STATE.md) */
+
+enum { CLOCK = 2, OLDEST = 3, COUNT = 4, SLOTS = 5, SLOT = 19, PLACES = 257, RECORDS = 4888, RECORD = 60 };
+enum { TIME = 0, SERIAL = 1, CELLS = 2, CELL = 3 };
+enum { K = 0, N = 1, TERM = 2, ENTRIES = 10, THRESHOLD = 11, LISTED = 19, SCORE = 35, CANDIDATES = 51 };
+
+static uint8_t old[FENNELRAKE_STATE_SIZE]; /* the state before the frame */
+
+static uint32_t word(const uint8_t *bytes, size_t i)
+{
+    return fennelrake_word(bytes + 4 * i);
+}
+
+static const uint8_t *slot(const uint8_t *s, uint32_t j)
+{
+    return s + 4 * (SLOTS + SLOT * (j % PLACES));
+}
+
+/* Message i in force, the oldest being message 0. */
+static const uint8_t *message(const uint8_t *s, uint32_t i)
+{
+    return slot(s, word(s, OLDEST) + i);
+}
+
+static const uint8_t *record(const uint8_t *s, uint32_t q)
+{
+    return s + 4 * (RECORDS + RECORD * q);
+}
+
+static uint32_t impact(const uint8_t *m, uint32_t term)
+{
+    uint32_t i;
+    for (i = 0; i < word(m, CELLS); i++)
+        if (word(m, CELL + i) >> 22 == term)
+            return word(m, CELL + i) & 16383;
+    return 0;
+}
+
+static uint32_t score(const uint8_t *m, const uint8_t *r)
+{
+    uint32_t i, sum = 0;
+    for (i = 0; i < word(r, N); i++)
+        sum += word(r, TERM + i) % 16 * impact(m, word(r, TERM + i) / 16);
+    return sum;
+}
+
+static int exceeds(const uint8_t *m, const uint8_t *r)
+{
+    uint32_t i;
+    for (i = 0; i < word(r, N); i++)
+        if (impact(m, word(r, TERM + i) / 16) > word(r, THRESHOLD + i))
+            return 1;
+    return 0;
+}
+
+/* ---- what holds after an accepted frame */
+
+static uint32_t bits(const uint8_t *bytes, size_t at, size_t width)
+{
+    uint32_t v = 0;
+    size_t i;
+    for (i = at; i < at + width; i++)
+        v = v << 1 | (bytes[i / 8] >> (7 - i % 8) & 1);
+    return v;
+}
+
+/* The messages in force: the same as before, less those that left, and one that arrived. */
+static void check_window(const uint8_t *s, const uint8_t *f, uint32_t departures)
+{
+    uint32_t kind = f[0] >> 4, time = bits(f, 4, 32), count = word(s, COUNT), held = word(old, COUNT), aged = 0, arrived = kind == FENNELRAKE_MESSAGE;
+    uint32_t i, j;
+
+    HOLD(word(s, 0) == word(old, 0) && word(s, 1) == word(old, 1));
+    HOLD(time >= word(old, CLOCK) && word(s, CLOCK) == time);
+    HOLD(word(s, OLDEST) < PLACES && count <= word(s, 0));
+    while (aged < held && time - word(message(old, aged), TIME) >= word(s, 1))
+        aged++;
+    HOLD(departures == aged + (arrived && held - aged == word(s, 0)));
+    HOLD(count == held - departures + arrived);
+    for (i = 0; i < count - arrived; i++)
+        HOLD(memcmp(message(s, i), message(old, departures + i), 4 * SLOT) == 0);
+    for (i = 0; i < count; i++)
+        for (j = 0; j < i; j++)
+            HOLD(word(message(s, i), SERIAL) != word(message(s, j), SERIAL));
+    if (arrived) {
+        const uint8_t *m = message(s, count - 1);
+        uint64_t n = 0, top, w;
+        HOLD(word(m, TIME) == time && word(m, SERIAL) == bits(f, 36, 20) && word(m, CELLS) == bits(f, 56, 4) + 1);
+        for (i = 0; i < word(m, CELLS); i++)
+            n += (uint64_t)bits(f, 70 + 18 * i, 8) * bits(f, 70 + 18 * i, 8);
+        for (i = 0; i < word(m, CELLS); i++) {
+            HOLD(word(m, CELL + i) >> 14 == bits(f, 60 + 18 * i, 18));
+            w = word(m, CELL + i) & 16383;
+            top = UINT64_C(1000) * bits(f, 70 + 18 * i, 8);
+            HOLD(w * w * n <= top * top && (w + 1) * (w + 1) * n > top * top);
+        }
+    }
+}
+
+/* A query's mark, and what its record has of the frame's own fields. */
+static void check_mark(const uint8_t *s, const uint8_t *f, uint32_t departures, uint32_t q, int marked)
+{
+    uint32_t kind = f[0] >> 4, i;
+    const uint8_t *r = record(s, q), *was = record(old, q);
+    int named = (kind == FENNELRAKE_REGISTER || kind == FENNELRAKE_DROP) && bits(f, 36, 5) == q, reached = 0;
+
+    for (i = 0; i < departures; i++)
+        reached |= exceeds(message(old, i), was);
+    if (kind == FENNELRAKE_MESSAGE)
+        reached |= exceeds(message(s, word(s, COUNT) - 1), was);
+    HOLD(marked == (named || reached));
+    HOLD(marked || memcmp(r, was, 4 * RECORD) == 0);
+    if (!named) {
+        HOLD(memcmp(r, was, 4 * ENTRIES) == 0);
+    } else if (kind == FENNELRAKE_DROP) {
+        HOLD(word(was, K) != 0 && word(r, K) == 0);
+    } else {
+        HOLD(word(was, K) == 0 && word(r, K) == bits(f, 41, 4) + 1 && word(r, N) == bits(f, 45, 3) + 1);
+        for (i = 0; i < word(r, N); i++)
+            HOLD(word(r, TERM + i) == bits(f, 48 + 14 * i, 14));
+    }
+}
+
+/* A query's list, as a reading returns it, is the ranking of the messages in force. */
+static void check_list(const uint8_t *s, uint32_t q)
+{
+    const uint8_t *r = record(s, q);
+    uint32_t count = word(s, COUNT), positive = 0, entries, i, j, last = 0, last_at = 0;
+
+    if (word(r, K) == 0) {
+        HOLD(all_of(r, 4 * RECORD, 0));
+        HOLD(list(q, FENNELRAKE_LIST_ANSWER_SIZE) == FENNELRAKE_REFUSED_NOT_IN_USE);
+        HOLD(all_of(answer.bytes, answer.length, FRESH));
+        return;
+    }
+    HOLD(list(q, FENNELRAKE_LIST_ANSWER_SIZE) == FENNELRAKE_ACCEPTED);
+    entries = fennelrake_list_count(answer.bytes);
+    HOLD(entries == word(r, ENTRIES) && entries <= word(r, K) && word(r, K) <= FENNELRAKE_LIST_PLACES);
+    for (i = 0; i < FENNELRAKE_LIST_PLACES; i++) {
+        HOLD(fennelrake_list_serial(answer.bytes, i) == word(r, LISTED + i) && fennelrake_list_score(answer.bytes, i) == word(r, SCORE + i));
+        if (i >= entries) {
+            HOLD(word(r, LISTED + i) == 0 && word(r, SCORE + i) == 0);
+            continue;
+        }
+        for (j = 0; j < count && word(message(s, j), SERIAL) != word(r, LISTED + i);)
+            j++;
+        HOLD(j < count && word(r, SCORE + i) == score(message(s, j), r) && word(r, SCORE + i) > 0);
+        HOLD(i == 0 || word(r, SCORE + i) < last || (word(r, SCORE + i) == last && j < last_at));
+        last = word(r, SCORE + i);
+        last_at = j;
+    }
+    /* what isn't listed stands behind the last entry */
+    for (j = 0; j < count; j++) {
+        uint32_t value = score(message(s, j), r), behind = value < last || (value == last && j < last_at);
+        positive += value > 0;
+        for (i = 0; i < entries && word(message(s, j), SERIAL) != word(r, LISTED + i);)
+            i++;
+        HOLD(value == 0 || i < entries || (entries == word(r, K) && behind));
+    }
+    HOLD(entries == (positive < word(r, K) ? positive : word(r, K)));
+}
+
+/* The thresholds are as high as they may be, and the candidates are the messages above one. */
+static void check_thresholds(const uint8_t *s, uint32_t q)
+{
+    const uint8_t *r = record(s, q);
+    uint32_t n = word(r, N), entries = word(r, ENTRIES), sum = 0, i, j;
+    uint8_t in_force[PLACES] = {0};
+
+    if (word(r, K) == 0)
+        return;
+    for (i = 0; i < n; i++)
+        sum += word(r, TERM + i) % 16 * word(r, THRESHOLD + i);
+    for (i = 0; i < FENNELRAKE_MOST_QUERY_TERMS; i++) {
+        uint32_t h = word(r, THRESHOLD + i), last = entries > 0 ? word(r, SCORE + entries - 1) : 0;
+        if (i >= n || entries < word(r, K)) {
+            HOLD(h == 0);
+        } else {
+            HOLD(h <= FENNELRAKE_TOP_IMPACT && sum < last);
+            HOLD(h == FENNELRAKE_TOP_IMPACT || sum + word(r, TERM + i) % 16 >= last);
+        }
+    }
+    for (i = 0; i < word(s, COUNT); i++)
+        in_force[(word(s, OLDEST) + i) % PLACES] = 1;
+    for (j = 0; j < 32 * (RECORD - CANDIDATES); j++) {
+        uint32_t set = word(r, CANDIDATES + j / 32) >> (31 - j % 32) & 1;
+        HOLD(set == (uint32_t)(j < PLACES && in_force[j] && exceeds(slot(s, j), r)));
+    }
+}
+
+/* The postings of a term, into exactly as many bytes as they take. */
+static void check_postings(const uint8_t *s, uint32_t term)
+{
+    uint32_t count = word(s, COUNT), there = 0, i, j, last = 0, last_at = 0;
+
+    for (j = 0; j < count; j++)
+        there += impact(message(s, j), term) > 0;
+    HOLD(postings(term, FENNELRAKE_POSTING_SIZE * there) == there);
+    for (i = 0; i < there; i++) {
+        uint32_t value = fennelrake_posting_impact(answer.bytes, i);
+        for (j = 0; j < count && word(message(s, j), SERIAL) != fennelrake_posting_serial(answer.bytes, i);)
+            j++;
+        HOLD(j < count && value > 0 && value == impact(message(s, j), term));
+        HOLD(i == 0 || value < last || (value == last && j < last_at));
+        last = value;
+        last_at = j;
+    }
+    if (there > 0) {
+        HOLD(postings(term, FENNELRAKE_POSTING_SIZE * there - 1) == (uint64_t)FENNELRAKE_REFUSED_MEMORY << 32);
+        HOLD(all_of(answer.bytes, answer.length, FRESH));
+    }
+}
+
+/* The writer makes the same bytes of the frame's fields, into exactly as many, whatever they held. */
+static void check_writer(const uint8_t *f, size_t length)
+{
+    uint32_t kind = f[0] >> 4, pairs = 0, width = 8, first = 60, i, k = 0, number = 0, serial = 0;
+    uint64_t r;
+
+    if (kind == FENNELRAKE_MESSAGE) {
+        serial = bits(f, 36, 20);
+        pairs = bits(f, 56, 4) + 1;
+    } else if (kind == FENNELRAKE_REGISTER) {
+        k = bits(f, 41, 4) + 1;
+        pairs = bits(f, 45, 3) + 1;
+        width = 4;
+        first = 48;
+    }
+    if (kind == FENNELRAKE_REGISTER || kind == FENNELRAKE_DROP)
+        number = bits(f, 36, 5);
+    lend(&terms, 2 * pairs, 0);
+    lend(&amounts, pairs, 0);
+    for (i = 0; i < pairs; i++) {
+        fennelrake_put_term(terms.bytes, i, (uint16_t)bits(f, first + (10 + width) * i, 10));
+        amounts.bytes[i] = (uint8_t)bits(f, first + (10 + width) * i + 10, width);
+    }
+    lend(&answer, length, FRESH);
+    r = fennelrake_write(kind, bits(f, 4, 32), serial, number, k, pairs, terms.bytes, 2 * pairs, amounts.bytes, pairs, answer.bytes, length);
+    HOLD(r == length && memcmp(answer.bytes, f, length) == 0);
+    lend(&answer, length - 1, FRESH);
+    r = fennelrake_write(kind, bits(f, 4, 32), serial, number, k, pairs, terms.bytes, 2 * pairs, amounts.bytes, pairs, answer.bytes, length - 1);
+    HOLD(r == (uint64_t)FENNELRAKE_REFUSED_MEMORY << 32 && all_of(answer.bytes, length - 1, FRESH));
+    guarded(&answer);
+    guarded(&terms);
+    guarded(&amounts);
+}
+
+/* The writer, given any fields: what it refuses it leaves, and what it writes has just these fields. */
+static void check_any_fields(const uint8_t *f, size_t length)
+{
+    size_t n = length < 12 ? 0 : (length - 12) / 3, room, i;
+    uint32_t kind, time, serial, number, k, pairs, found, size;
+    uint64_t r;
+
+    if (n == 0)
+        return;
+    kind = f[0] % 8;
+    time = word(f, 1);
+    serial = word(f, 0) >> (f[8] % 32);
+    number = f[8] % 40;
+    k = f[9] % 20;
+    pairs = f[10] % 20;
+    room = f[11] % 48;
+    lend(&terms, 2 * n, 0);
+    lend(&amounts, n, 0);
+    memcpy(terms.bytes, f + 12, 2 * n);
+    memcpy(amounts.bytes, f + 12 + 2 * n, n);
+    for (i = 0; i < n; i++)
+        terms.bytes[2 * i] %= 5;
+    lend(&answer, room, FRESH);
+    r = fennelrake_write(kind, time, serial, number, k, pairs, terms.bytes, 2 * n, amounts.bytes, n, answer.bytes, room);
+    guarded(&answer);
+    guarded(&terms);
+    guarded(&amounts);
+    found = fennelrake_number(r);
+    size = fennelrake_size(r);
+    seen(8, found * 8 + kind);
+    HOLD(found == 0 || ((found == 2 || found == 5 || found == 6 || found == 12) && size == 0));
+    HOLD((found == FENNELRAKE_REFUSED_KIND) == (kind < 1 || kind > 4));
+    HOLD(size <= room && all_of(answer.bytes + size, room - size, FRESH));
+    if (found != 0)
+        return;
+    HOLD(bits(answer.bytes, 0, 4) == kind && bits(answer.bytes, 4, 32) == time);
+    if (kind == FENNELRAKE_MESSAGE)
+        HOLD(bits(answer.bytes, 36, 20) == serial && bits(answer.bytes, 56, 4) + 1 == pairs);
+    if (kind == FENNELRAKE_REGISTER)
+        HOLD(bits(answer.bytes, 41, 4) + 1 == k && bits(answer.bytes, 45, 3) + 1 == pairs);
+    if (kind == FENNELRAKE_REGISTER || kind == FENNELRAKE_DROP)
+        HOLD(bits(answer.bytes, 36, 5) == number);
+    for (i = 0; i < pairs && (kind == FENNELRAKE_MESSAGE || kind == FENNELRAKE_REGISTER); i++) {
+        size_t at = kind == FENNELRAKE_MESSAGE ? 60 + 18 * i : 48 + 14 * i;
+        HOLD(i < n && bits(answer.bytes, at, 10) == terms.bytes[2 * i] * 256u + terms.bytes[2 * i + 1]);
+        HOLD(bits(answer.bytes, at + 10, kind == FENNELRAKE_MESSAGE ? 8 : 4) == amounts.bytes[i]);
+    }
+}
+
+/* ---- the target 'passage' */
+
+static uint32_t digest(uint32_t d, uint32_t value)
+{
+    return (d ^ value) * UINT32_C(16777619);
+}
+
+/* Hands a frame over, checks everything, and answers a digest of the reply. */
+static uint32_t checked_frame(const uint8_t *f, size_t length)
+{
+    static uint8_t now[FENNELRAKE_STATE_SIZE];
+    uint32_t number, marks, departures, q, beyond = (uint32_t)(ordinal % 40);
+
+    memcpy(old, state.bytes, state.length);
+    HOLD(hand(f, length, FENNELRAKE_FRAME_ANSWER_SIZE - 1) == FENNELRAKE_REFUSED_MEMORY);
+    HOLD(all_of(answer.bytes, answer.length, FRESH) && memcmp(old, state.bytes, state.length) == 0);
+
+    number = hand(f, length, FENNELRAKE_FRAME_ANSWER_SIZE);
+    HOLD(number <= FENNELRAKE_REFUSED_NOT_IN_USE);
+    HOLD((number == FENNELRAKE_REFUSED_SHORT) == (length < 5));
+    HOLD(length < 5 || (number == FENNELRAKE_REFUSED_KIND) == (f[0] >> 4 < 1 || f[0] >> 4 > 4));
+    seen(0, number * 16 + (length > 0 ? f[0] >> 4 : 0));
+    if (number != 0) {
+        HOLD(all_of(answer.bytes, answer.length, FRESH) && memcmp(old, state.bytes, state.length) == 0);
+        check_any_fields(f, length);
+        return digest(number, 0);
+    }
+    marks = fennelrake_marks(answer.bytes);
+    departures = fennelrake_departures(answer.bytes);
+    memcpy(now, state.bytes, state.length);
+    check_window(now, f, departures);
+    for (q = 0; q < FENNELRAKE_QUERIES; q++) {
+        check_mark(now, f, departures, q, marks >> q & 1);
+        check_list(now, q);
+        check_thresholds(now, q);
+        if (word(record(now, q), K) != 0)
+            seen(1, word(record(now, q), ENTRIES) * 32 + (marks >> q & 1) * 16 + word(record(now, q), K) - 1);
+    }
+    check_postings(now, word(now, COUNT) > 0 ? word(message(now, (uint32_t)ordinal % word(now, COUNT)), CELL) >> 22 : (uint32_t)ordinal % 1024);
+    check_writer(f, length);
+    HOLD(list(beyond, FENNELRAKE_LIST_ANSWER_SIZE - 1) == FENNELRAKE_REFUSED_MEMORY && all_of(answer.bytes, answer.length, FRESH));
+    HOLD(postings(FENNELRAKE_TERMS + (uint32_t)ordinal, 0) == (uint64_t)FENNELRAKE_REFUSED_VALUE << 32);
+    HOLD(memcmp(now, state.bytes, state.length) == 0);
+    seen(2, departures);
+    seen(3, word(now, COUNT));
+    return digest(digest(marks, departures), 1);
+}
+
+/* One run over the input: a digest of the replies. */
+static uint32_t run(const uint8_t *data, size_t size)
+{
+    uint32_t d = 0, capacity, life, number;
+
+    ordinal = 0;
+    lend(&state, FENNELRAKE_STATE_SIZE, 0x5a);
+    if (size < 3)
+        return 0;
+    capacity = data[0] + 1u;
+    life = data[1] * 256u + data[2];
+    number = fennelrake_start(state.bytes, state.length, capacity, life);
+    guarded(&state);
+    HOLD(number == (life == 0 ? FENNELRAKE_REFUSED_START : FENNELRAKE_ACCEPTED));
+    if (number != 0) {
+        HOLD(all_of(state.bytes, state.length, 0x5a));
+        return 0;
+    }
+    data += 3;
+    size -= 3;
+    while (size > 0) {
+        size_t length = *data++;
+        size--;
+        if (length > size)
+            length = size;
+        ordinal++;
+        d = digest(d, checked_frame(data, length));
+        data += length;
+        size -= length;
+    }
+    return d;
+}
+
+void passage(const uint8_t *data, size_t size)
+{
+    static uint8_t end[FENNELRAKE_STATE_SIZE];
+    uint32_t d;
+
+    at_start = 0;
+    d = run(data, size);
+    memcpy(end, state.bytes, state.length);
+    at_start = 1;
+    moved = size % 4;
+    HOLD(run(data, size) == d);
+    HOLD(memcmp(end, state.bytes, state.length) == 0);
+}
+
+/* ---- the target 'foreign' */
+
+/* Puts a value into a word of the state memory. The words that steer a loop are few: those at the start, and the first of a slot and a record. */
+static void damage(int steering, const uint8_t *how)
+{
+    static const uint32_t values[] = {0, 1, 8, 9, 15, 16, 17, 255, 256, 257, 1000, 65535, 0x7fffffff, 0x80000000, 0xfffffffe, 0xffffffff};
+    uint32_t i = (how[0] * 256u + how[1]) % (FENNELRAKE_STATE_SIZE / 4), value = values[how[2] % 16], j;
+
+    if (steering && how[0] < 64)
+        i = how[0] % 5u;
+    else if (steering && how[0] < 160)
+        i = SLOTS + SLOT * (how[1] % 257u) + how[0] % 4u;
+    else if (steering)
+        i = RECORDS + RECORD * (how[1] % 32u) + how[0] % 20u;
+    for (j = 0; j < 4; j++)
+        state.bytes[4 * i + j] = (uint8_t)(value >> (24 - 8 * j));
+}
+
+/*
+ * The first byte says how many bytes after it are laid over the state memory, again and again; with 0 it is a fresh engine's. Then steps: a byte
+ * below 192 is a frame's length; another has three more bytes, which say what word is damaged and what is put there.
+ */
+static void foreign_run(const uint8_t *data, size_t size)
+{
+    size_t tile, i;
+
+    ordinal = 0;
+    lend(&state, FENNELRAKE_STATE_SIZE, 0);
+    if (size == 0)
+        return;
+    tile = data[0] < size - 1 ? data[0] : size - 1;
+    if (tile == 0)
+        HOLD(fennelrake_start(state.bytes, state.length, 256, 1000) == FENNELRAKE_ACCEPTED);
+    for (i = 0; tile > 0 && i < state.length; i++)
+        state.bytes[i] = data[1 + i % tile];
+    data += 1 + tile;
+    size -= 1 + tile;
+    while (size > 0) {
+        size_t length = *data++;
+        size--;
+        ordinal++;
+        if (length >= 192) {
+            if (size < 3)
+                return;
+            damage(length % 2 == 0, data);
+            data += 3;
+            size -= 3;
+            continue;
+        }
+        if (length > size)
+            length = size;
+        seen(4, hand(data, length, FENNELRAKE_FRAME_ANSWER_SIZE));
+        seen(5, list((uint32_t)ordinal % 33, FENNELRAKE_LIST_ANSWER_SIZE));
+        seen(6, (uint32_t)(postings(word(slot(state.bytes, word(state.bytes, OLDEST) % PLACES), CELL) >> 22, FENNELRAKE_POSTINGS_SIZE) >> 32));
+        seen(7, (uint32_t)(postings((uint32_t)ordinal, ordinal % 64) >> 32));
+        data += length;
+        size -= length;
+    }
+}
+
+void foreign(const uint8_t *data, size_t size)
+{
+    at_start = 0;
+    foreign_run(data, size);
+    at_start = 1;
+    moved = size % 4;
+    foreign_run(data, size);
+}

@@ -1,0 +1,167 @@
+/*
+ * The targets without a fuzzer:
+ *   replay passage|foreign FILE..        runs each file as an input of that target
+ *   replay random SEED COUNT             runs so many inputs of both, made from the seed
+ *   replay make TARGET SEED DIR COUNT    writes shorter ones into a folder, for a fuzzer to start from
+ */
+#include "fuzz.h"
+
+#include "fennelrake.h"
+
+#include <stdio.h>
+#include <stdlib.h>
+#include <string.h>
+
+/* ---- numbers from a seed */
+
+static uint64_t drawn;
+
+static uint32_t below(uint32_t n)
+{
+    drawn ^= drawn << 13;
+    drawn ^= drawn >> 7;
+    drawn ^= drawn << 17;
+    return (uint32_t)((drawn * UINT64_C(0x2545f4914f6cdd1d) >> 32) % n);
+}
+
+/* ---- inputs */
+
+static uint8_t made[1 << 16]; /* far more than an input of either target takes */
+static size_t size;
+
+static void put(uint32_t byte)
+{
+    made[size++] = (uint8_t)byte;
+}
+
+/* A frame after its length: few terms, serials and queries, so that much is shared; one in eight is damaged. */
+static void put_frame(uint32_t *clock, uint32_t life)
+{
+    uint8_t terms[2 * FENNELRAKE_MOST_PAIRS], amounts[FENNELRAKE_MOST_PAIRS], frame[FENNELRAKE_LONGEST_FRAME + 1] = {0};
+    uint32_t kind = below(8), time, serial, number, k, most, pairs = 0, apart = below(4) == 0 ? 120 : 6, term, length, i;
+
+    kind = kind > 2 ? FENNELRAKE_MESSAGE : kind + 2;
+    most = kind == FENNELRAKE_MESSAGE ? FENNELRAKE_MOST_PAIRS : FENNELRAKE_MOST_QUERY_TERMS;
+    for (term = below(apart); pairs < most && term < 3 * apart; term += 1 + below(apart)) {
+        fennelrake_put_term(terms, pairs, (uint16_t)(term < 3 * apart - 1 ? term : FENNELRAKE_TERMS - 1));
+        amounts[pairs++] = (uint8_t)(1 + (below(16) == 0 && kind == FENNELRAKE_MESSAGE ? below(255) : below(4)));
+    }
+    *clock += below(24) == 0 ? life - below(2) : below(3);
+    time = *clock - (below(32) == 0);
+    serial = below(below(8) == 0 ? FENNELRAKE_SERIALS : 64);
+    number = below(below(3) == 0 ? FENNELRAKE_QUERIES : 6);
+    k = 1 + below(below(3) == 0 ? FENNELRAKE_LIST_PLACES : 3);
+    length = fennelrake_size(
+        fennelrake_write(kind, time, serial, number, k, pairs, terms, 2 * pairs, amounts, pairs, frame, FENNELRAKE_LONGEST_FRAME));
+    if (below(16) == 0) {
+        i = below(8 * length);
+        frame[i / 8] ^= (uint8_t)(1 << i % 8);
+    } else if (below(16) == 0) {
+        length = below(length + 2);
+    }
+    put(length);
+    for (i = 0; i < length; i++)
+        put(frame[i]);
+    /* what is no frame at all still serves as fields for the writer */
+    if (below(16) == 0) {
+        put(length = 12 + below(40));
+        for (i = 0; i < length; i++)
+            put(below(3) == 0 ? below(256) : i < 8 ? below(4) : i % 3);
+    }
+}
+
+static void make_passage(uint32_t most)
+{
+    uint32_t frames = below(most), clock = below(8) == 0 ? UINT32_MAX - 300 : 0, life = 1 + below(below(3) == 0 ? FENNELRAKE_LONGEST_LIFE : 120);
+
+    if (below(30) == 0)
+        life = 0;
+    size = 0;
+    put(below(4) == 0 ? below(256) : below(12));
+    put(life >> 8);
+    put(life & 255);
+    while (frames-- > 0)
+        put_frame(&clock, life);
+    if (below(8) == 0)
+        size -= below(4) % (size + 1);
+}
+
+static void make_foreign(uint32_t most)
+{
+    uint32_t steps = below(most), tile = below(2) == 0 ? below(40) : 0, clock = below(3) == 0 ? UINT32_MAX - 300 : 0, i;
+
+    size = 0;
+    put(tile);
+    for (i = 0; i < tile; i++)
+        put(below(3) == 0 ? below(256) : 0);
+    while (steps-- > 0) {
+        if (below(6) > 0) {
+            put_frame(&clock, 1000);
+            continue;
+        }
+        put(192 + below(64));
+        for (i = 0; i < 3; i++)
+            put(below(256));
+    }
+}
+
+/* Makes an input of a target, of fewer than so many frames. */
+static void make(int of_passage, uint32_t most, uint32_t seed, uint32_t i)
+{
+    drawn = (seed * UINT64_C(1000003) + i) * UINT64_C(0x9e3779b97f4a7c15) | 1;
+    below(2);
+    (of_passage ? make_passage : make_foreign)(most);
+}
+
+static void run_file(const char *name, int of_passage)
+{
+    FILE *file = fopen(name, "rb");
+    if (file == NULL) {
+        perror(name);
+        exit(2);
+    }
+    size = fread(made, 1, sizeof made, file);
+    fclose(file);
+    (of_passage ? passage : foreign)(made, size);
+}
+
+static void write_file(const char *folder, uint32_t i)
+{
+    char name[4096];
+    FILE *file;
+    snprintf(name, sizeof name, "%s/made-%lu", folder, (unsigned long)i);
+    file = fopen(name, "wb");
+    if (file == NULL || fwrite(made, 1, size, file) != size || fclose(file) != 0) {
+        perror(name);
+        exit(2);
+    }
+}
+
+int main(int argc, char **argv)
+{
+    uint32_t i;
+
+    watch_blocks();
+    if (argc == 4 && strcmp(argv[1], "random") == 0) {
+        for (i = 0; i < strtoul(argv[3], NULL, 10); i++) {
+            make(1, 160, (uint32_t)strtoul(argv[2], NULL, 10), i);
+            passage(made, size);
+            make(0, 80, (uint32_t)strtoul(argv[2], NULL, 10), i);
+            foreign(made, size);
+        }
+    } else if (argc == 6 && strcmp(argv[1], "make") == 0) {
+        for (i = 0; i < strtoul(argv[5], NULL, 10); i++) {
+            /* short ones: a search that starts from them tries more */
+            make(strcmp(argv[2], "passage") == 0, 24, (uint32_t)strtoul(argv[3], NULL, 10), i);
+            write_file(argv[4], i);
+        }
+    } else if (argc > 2 && (strcmp(argv[1], "passage") == 0 || strcmp(argv[1], "foreign") == 0)) {
+        for (i = 2; i < (uint32_t)argc; i++)
+            run_file(argv[i], strcmp(argv[1], "passage") == 0);
+    } else {
+        fprintf(stderr, "usage: replay passage|foreign FILE.., replay random SEED COUNT, or replay make TARGET SEED DIR COUNT\n");
+        return 2;
+    }
+    /* inputs that leave a tenth of the archive out would mean little */
+    return tell_blocks() < 90 && strcmp(argv[1], "random") == 0;
+}

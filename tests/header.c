@@ -1,0 +1,285 @@
+/*
+ * The names of include/fennelrake.h against the archive: every size and range at its edge, every number by the call that earns it, every reader.
+ * Written in what C99 and C++11 share, so that it's built as both. Lent memory is from the heap and no longer than it says, for valgrind.
+ */
+#include <fennelrake.h>
+
+#include <stdio.h>
+#include <stdlib.h>
+#include <string.h>
+
+static unsigned failures;
+
+#define EXPECT(got, want) expect(#got, (got), (want), __LINE__)
+
+static void expect(const char *what, unsigned long got, unsigned long want, int line)
+{
+    if (got != want) {
+        printf("line %d: %s is %lu, and must be %lu\n", line, what, got, want);
+        failures++;
+    }
+}
+
+static uint8_t *lent(size_t length)
+{
+    uint8_t *bytes = (uint8_t *)malloc(length);
+
+    if (bytes == NULL)
+        exit(2);
+    memset(bytes, 0xa5, length);
+    return bytes;
+}
+
+static int untouched(const uint8_t *bytes, size_t length)
+{
+    size_t i;
+
+    for (i = 0; i < length; i++)
+        if (bytes[i] != 0xa5)
+            return 0;
+    return 1;
+}
+
+/* Terms 0, 1, 2 .. and amounts of 1, more than any frame has. */
+enum { PLENTY = 20 };
+static uint8_t terms[2 * PLENTY], amounts[PLENTY];
+
+static uint8_t *state, *frame, *reply, *list, *postings;
+static size_t frame_length;
+
+/* Writes a frame with the terms and amounts above. Returns the writer's number. */
+static uint32_t written(uint32_t kind, uint32_t time, uint32_t serial, uint32_t number, uint32_t k, uint32_t pairs)
+{
+    uint64_t r = fennelrake_write(kind, time, serial, number, k, pairs, terms, sizeof terms, amounts, sizeof amounts, frame,
+                                  FENNELRAKE_LONGEST_FRAME);
+
+    frame_length = fennelrake_size(r);
+    return fennelrake_number(r);
+}
+
+/* Hands over the frame written last; a refusal must leave state and answer alone. */
+static uint32_t handed(void)
+{
+    uint8_t *before = lent(FENNELRAKE_STATE_SIZE);
+    uint32_t number;
+
+    memcpy(before, state, FENNELRAKE_STATE_SIZE);
+    memset(reply, 0xa5, FENNELRAKE_FRAME_ANSWER_SIZE);
+    number = fennelrake_frame(state, FENNELRAKE_STATE_SIZE, frame, frame_length, reply, FENNELRAKE_FRAME_ANSWER_SIZE);
+    if (number != FENNELRAKE_ACCEPTED) {
+        EXPECT(memcmp(before, state, FENNELRAKE_STATE_SIZE) == 0, 1);
+        EXPECT(untouched(reply, FENNELRAKE_FRAME_ANSWER_SIZE), 1);
+    }
+    free(before);
+    return number;
+}
+
+/* Writes a frame and hands it over. */
+static uint32_t fed(uint32_t kind, uint32_t time, uint32_t serial, uint32_t number, uint32_t k, uint32_t pairs)
+{
+    EXPECT(written(kind, time, serial, number, k, pairs), FENNELRAKE_ACCEPTED);
+    return handed();
+}
+
+static void words(void)
+{
+    static const uint8_t bytes[] = {0xf1, 0x02, 0x03, 0x04};
+
+    EXPECT(fennelrake_word(bytes), UINT32_C(0xf1020304));
+    EXPECT(fennelrake_number(UINT64_C(0xf0000003f0000004)), UINT32_C(0xf0000003));
+    EXPECT(fennelrake_size(UINT64_C(0xf0000003f0000004)), UINT32_C(0xf0000004));
+}
+
+static void starting(void)
+{
+    EXPECT(fennelrake_start(state, FENNELRAKE_STATE_SIZE, 0, 1), FENNELRAKE_REFUSED_START);
+    EXPECT(fennelrake_start(state, FENNELRAKE_STATE_SIZE, FENNELRAKE_MOST_MESSAGES + 1, 1), FENNELRAKE_REFUSED_START);
+    EXPECT(fennelrake_start(state, FENNELRAKE_STATE_SIZE, 1, 0), FENNELRAKE_REFUSED_START);
+    EXPECT(fennelrake_start(state, FENNELRAKE_STATE_SIZE - 1, 1, FENNELRAKE_LONGEST_LIFE + 1), FENNELRAKE_REFUSED_START);
+    EXPECT(fennelrake_start(state, FENNELRAKE_STATE_SIZE - 1, 1, 1), FENNELRAKE_REFUSED_MEMORY);
+    EXPECT(fennelrake_start(NULL, 0, 1, 1), FENNELRAKE_REFUSED_MEMORY);
+    EXPECT(untouched(state, FENNELRAKE_STATE_SIZE), 1);
+    EXPECT(fennelrake_start(state, FENNELRAKE_STATE_SIZE, FENNELRAKE_MOST_MESSAGES, FENNELRAKE_LONGEST_LIFE), FENNELRAKE_ACCEPTED);
+}
+
+static void lengths(void)
+{
+    EXPECT(written(FENNELRAKE_TICK, 0, 0, 0, 0, 0), FENNELRAKE_ACCEPTED);
+    EXPECT(fennelrake_frame(state, FENNELRAKE_STATE_SIZE - 1, frame, 0, reply, FENNELRAKE_FRAME_ANSWER_SIZE), FENNELRAKE_REFUSED_MEMORY);
+    EXPECT(fennelrake_frame(state, FENNELRAKE_STATE_SIZE, frame, 0, reply, FENNELRAKE_FRAME_ANSWER_SIZE - 1), FENNELRAKE_REFUSED_MEMORY);
+    EXPECT(fennelrake_frame(state, FENNELRAKE_STATE_SIZE, NULL, 0, NULL, 0), FENNELRAKE_REFUSED_MEMORY);
+    EXPECT(fennelrake_frame(state, FENNELRAKE_STATE_SIZE, NULL, 0, reply, FENNELRAKE_FRAME_ANSWER_SIZE), FENNELRAKE_REFUSED_SHORT);
+    EXPECT(handed(), FENNELRAKE_ACCEPTED);
+    EXPECT(fennelrake_list(state, FENNELRAKE_STATE_SIZE, FENNELRAKE_QUERIES, list, FENNELRAKE_LIST_ANSWER_SIZE - 1), FENNELRAKE_REFUSED_MEMORY);
+    EXPECT(fennelrake_list(state, FENNELRAKE_STATE_SIZE - 1, 0, list, FENNELRAKE_LIST_ANSWER_SIZE), FENNELRAKE_REFUSED_MEMORY);
+    EXPECT(fennelrake_list(state, FENNELRAKE_STATE_SIZE, 0, list, FENNELRAKE_LIST_ANSWER_SIZE), FENNELRAKE_REFUSED_NOT_IN_USE);
+    EXPECT(fennelrake_list(state, FENNELRAKE_STATE_SIZE, FENNELRAKE_QUERIES, list, FENNELRAKE_LIST_ANSWER_SIZE), FENNELRAKE_REFUSED_NOT_IN_USE);
+    EXPECT(untouched(list, FENNELRAKE_LIST_ANSWER_SIZE), 1);
+    EXPECT(fennelrake_number(fennelrake_postings(state, 0, FENNELRAKE_TERMS, postings, 0)), FENNELRAKE_REFUSED_MEMORY);
+    EXPECT(fennelrake_number(fennelrake_postings(state, FENNELRAKE_STATE_SIZE, FENNELRAKE_TERMS, NULL, 0)), FENNELRAKE_REFUSED_VALUE);
+    EXPECT(fennelrake_postings(state, FENNELRAKE_STATE_SIZE, FENNELRAKE_TERMS - 1, NULL, 0), FENNELRAKE_ACCEPTED);
+}
+
+static void frames(void)
+{
+    /* a tick at 120 */
+    static const uint8_t tick[] = {0x20, 0x00, 0x00, 0x07, 0x80};
+
+    EXPECT(written(FENNELRAKE_TICK, 120, 0, 0, 0, 0), FENNELRAKE_ACCEPTED);
+    EXPECT(frame_length == sizeof tick && memcmp(frame, tick, sizeof tick) == 0, 1);
+    frame_length = sizeof tick - 1;
+    EXPECT(handed(), FENNELRAKE_REFUSED_SHORT);
+    frame_length = sizeof tick + 1;
+    EXPECT(handed(), FENNELRAKE_REFUSED_LENGTH);
+    frame_length = sizeof tick;
+    frame[4] = 0x81;
+    EXPECT(handed(), FENNELRAKE_REFUSED_FILL);
+    frame[0] = 0x50;
+    EXPECT(handed(), FENNELRAKE_REFUSED_KIND);
+
+    /* two pairs: the first count's last bit is bit 77, and the second term's bit 87 */
+    EXPECT(written(FENNELRAKE_MESSAGE, 0, 0, 0, 0, 2), FENNELRAKE_ACCEPTED);
+    frame[9] = (uint8_t)(frame[9] & ~0x04);
+    EXPECT(handed(), FENNELRAKE_REFUSED_VALUE);
+    EXPECT(written(FENNELRAKE_MESSAGE, 0, 0, 0, 0, 2), FENNELRAKE_ACCEPTED);
+    frame[10] = (uint8_t)(frame[10] & ~0x01);
+    EXPECT(handed(), FENNELRAKE_REFUSED_ORDER);
+}
+
+static void writing(void)
+{
+    uint64_t r;
+
+    EXPECT(written(0, 0, 0, 0, 0, 0), FENNELRAKE_REFUSED_KIND);
+    EXPECT(written(FENNELRAKE_DROP + 1, 0, FENNELRAKE_SERIALS, 0, 0, 0), FENNELRAKE_REFUSED_KIND);
+    EXPECT(written(FENNELRAKE_MESSAGE, 0, FENNELRAKE_SERIALS, 0, 0, 1), FENNELRAKE_REFUSED_VALUE);
+    EXPECT(written(FENNELRAKE_MESSAGE, 0, 0, 0, 0, 0), FENNELRAKE_REFUSED_VALUE);
+    EXPECT(written(FENNELRAKE_MESSAGE, 0, 0, 0, 0, FENNELRAKE_MOST_PAIRS + 1), FENNELRAKE_REFUSED_VALUE);
+    EXPECT(written(FENNELRAKE_MESSAGE, UINT32_MAX, FENNELRAKE_SERIALS - 1, 0, 0, FENNELRAKE_MOST_PAIRS), FENNELRAKE_ACCEPTED);
+    EXPECT(frame_length, FENNELRAKE_LONGEST_FRAME);
+    EXPECT(written(FENNELRAKE_REGISTER, 0, 0, FENNELRAKE_QUERIES, 1, 1), FENNELRAKE_REFUSED_VALUE);
+    EXPECT(written(FENNELRAKE_REGISTER, 0, 0, 0, 0, 1), FENNELRAKE_REFUSED_VALUE);
+    EXPECT(written(FENNELRAKE_REGISTER, 0, 0, 0, FENNELRAKE_LIST_PLACES + 1, 1), FENNELRAKE_REFUSED_VALUE);
+    EXPECT(written(FENNELRAKE_REGISTER, 0, 0, 0, 1, FENNELRAKE_MOST_QUERY_TERMS + 1), FENNELRAKE_REFUSED_VALUE);
+    EXPECT(written(FENNELRAKE_REGISTER, 0, 0, FENNELRAKE_QUERIES - 1, FENNELRAKE_LIST_PLACES, FENNELRAKE_MOST_QUERY_TERMS), FENNELRAKE_ACCEPTED);
+    EXPECT(written(FENNELRAKE_DROP, 0, 0, FENNELRAKE_QUERIES, 0, 0), FENNELRAKE_REFUSED_VALUE);
+    EXPECT(written(FENNELRAKE_DROP, 0, 0, FENNELRAKE_QUERIES - 1, 0, 0), FENNELRAKE_ACCEPTED);
+
+    /* terms and amounts: the range of a term, of a weight and of a count; 5 in a later pair comes before 6 in an earlier one */
+    fennelrake_put_term(terms, 1, FENNELRAKE_TERMS);
+    EXPECT(written(FENNELRAKE_MESSAGE, 0, 0, 0, 0, 2), FENNELRAKE_REFUSED_VALUE);
+    fennelrake_put_term(terms, 1, FENNELRAKE_TERMS - 1);
+    EXPECT(written(FENNELRAKE_MESSAGE, 0, 0, 0, 0, 2), FENNELRAKE_ACCEPTED);
+    EXPECT(written(FENNELRAKE_MESSAGE, 0, 0, 0, 0, 3), FENNELRAKE_REFUSED_ORDER);
+    amounts[2] = 0;
+    EXPECT(written(FENNELRAKE_MESSAGE, 0, 0, 0, 0, 3), FENNELRAKE_REFUSED_VALUE);
+    amounts[2] = 1;
+    fennelrake_put_term(terms, 1, 0);
+    EXPECT(written(FENNELRAKE_REGISTER, 0, 0, 0, 1, 2), FENNELRAKE_REFUSED_ORDER);
+    fennelrake_put_term(terms, 1, 1);
+    amounts[1] = FENNELRAKE_MOST_WEIGHT;
+    EXPECT(written(FENNELRAKE_REGISTER, 0, 0, 0, 1, 2), FENNELRAKE_ACCEPTED);
+    amounts[1] = FENNELRAKE_MOST_WEIGHT + 1;
+    EXPECT(written(FENNELRAKE_REGISTER, 0, 0, 0, 1, 2), FENNELRAKE_REFUSED_VALUE);
+    /* a count is one byte, and may be any but 0 */
+    EXPECT(FENNELRAKE_MOST_COUNT, UINT8_MAX);
+    amounts[1] = FENNELRAKE_MOST_COUNT;
+    EXPECT(written(FENNELRAKE_MESSAGE, 0, 0, 0, 0, 2), FENNELRAKE_ACCEPTED);
+    amounts[1] = 1;
+
+    /* lengths lent: two bytes for each term, an odd one being no term; one for each amount; as many for the frame as it takes */
+    EXPECT(fennelrake_number(fennelrake_write(FENNELRAKE_MESSAGE, 0, 0, 0, 0, 2, terms, 3, amounts, 2, frame, FENNELRAKE_LONGEST_FRAME)),
+           FENNELRAKE_REFUSED_VALUE);
+    EXPECT(fennelrake_number(fennelrake_write(FENNELRAKE_MESSAGE, 0, 0, 0, 0, 2, terms, 4, amounts, 1, frame, FENNELRAKE_LONGEST_FRAME)),
+           FENNELRAKE_REFUSED_VALUE);
+    r = fennelrake_write(FENNELRAKE_MESSAGE, 0, 0, 0, 0, 2, terms, 4, amounts, 2, frame, FENNELRAKE_LONGEST_FRAME);
+    EXPECT(r, 12);
+    memset(frame, 0xa5, FENNELRAKE_LONGEST_FRAME);
+    r = fennelrake_write(FENNELRAKE_MESSAGE, 0, 0, 0, 0, 2, terms, 4, amounts, 2, frame, 11);
+    EXPECT(fennelrake_number(r), FENNELRAKE_REFUSED_MEMORY);
+    EXPECT(fennelrake_size(r), 0);
+    EXPECT(untouched(frame, FENNELRAKE_LONGEST_FRAME), 1);
+    r = fennelrake_write(FENNELRAKE_TICK, 0, FENNELRAKE_SERIALS, FENNELRAKE_QUERIES, 0, 0, NULL, 0, NULL, 0, frame, FENNELRAKE_LONGEST_FRAME);
+    EXPECT(r, 5);
+    EXPECT(untouched(frame + 5, FENNELRAKE_LONGEST_FRAME - 5), 1);
+}
+
+/* As many messages as can be in force, each with a term of two bytes of its own value; a query with the longest list. */
+static void passage(void)
+{
+    const uint16_t term = 0x0102;
+    uint32_t i;
+    uint64_t found;
+
+    EXPECT(fennelrake_start(state, FENNELRAKE_STATE_SIZE, FENNELRAKE_MOST_MESSAGES, 1000), FENNELRAKE_ACCEPTED);
+    fennelrake_put_term(terms, 0, term);
+    amounts[0] = 3;
+    EXPECT(fed(FENNELRAKE_REGISTER, 1, 0, FENNELRAKE_QUERIES - 1, FENNELRAKE_LIST_PLACES, 1), FENNELRAKE_ACCEPTED);
+    EXPECT(fennelrake_marks(reply), UINT32_C(0x80000000));
+    EXPECT(fed(FENNELRAKE_REGISTER, 1, 0, FENNELRAKE_QUERIES - 1, 1, 1), FENNELRAKE_REFUSED_IN_USE);
+    EXPECT(fed(FENNELRAKE_REGISTER, 0, 0, FENNELRAKE_QUERIES - 1, 1, 1), FENNELRAKE_REFUSED_TIME);
+    EXPECT(fed(FENNELRAKE_DROP, 1, 0, 0, 0, 0), FENNELRAKE_REFUSED_NOT_IN_USE);
+    for (i = 0; i < FENNELRAKE_MOST_MESSAGES; i++)
+        EXPECT(fed(FENNELRAKE_MESSAGE, 2, 1000 + i, 0, 0, 1), FENNELRAKE_ACCEPTED);
+    EXPECT(fed(FENNELRAKE_MESSAGE, 2, 1000, 0, 0, 1), FENNELRAKE_REFUSED_SERIAL);
+
+    found = fennelrake_postings(state, FENNELRAKE_STATE_SIZE, term, postings, FENNELRAKE_POSTINGS_SIZE - 1);
+    EXPECT(fennelrake_number(found), FENNELRAKE_REFUSED_MEMORY);
+    EXPECT(fennelrake_size(found), 0);
+    EXPECT(untouched(postings, FENNELRAKE_POSTINGS_SIZE), 1);
+    found = fennelrake_postings(state, FENNELRAKE_STATE_SIZE, term, postings, FENNELRAKE_POSTINGS_SIZE);
+    EXPECT(fennelrake_number(found), FENNELRAKE_ACCEPTED);
+    EXPECT(fennelrake_size(found), FENNELRAKE_MOST_POSTINGS);
+    for (i = 0; i < FENNELRAKE_MOST_POSTINGS; i++) {
+        EXPECT(fennelrake_posting_serial(postings, i), 1000 + FENNELRAKE_MOST_MESSAGES - 1 - i);
+        EXPECT(fennelrake_posting_impact(postings, i), FENNELRAKE_TOP_IMPACT);
+    }
+
+    /* the newest first, each with a weight of 3 times the top of the scale */
+    EXPECT(fennelrake_list(state, FENNELRAKE_STATE_SIZE, FENNELRAKE_QUERIES - 1, list, FENNELRAKE_LIST_ANSWER_SIZE), FENNELRAKE_ACCEPTED);
+    EXPECT(fennelrake_list_count(list), FENNELRAKE_LIST_PLACES);
+    for (i = 0; i < FENNELRAKE_LIST_PLACES; i++) {
+        EXPECT(fennelrake_list_serial(list, i), 1000 + FENNELRAKE_MOST_MESSAGES - 1 - i);
+        EXPECT(fennelrake_list_score(list, i), 3 * FENNELRAKE_TOP_IMPACT);
+    }
+
+    /* all leave with one tick, which empties the list */
+    EXPECT(fed(FENNELRAKE_TICK, 2000, 0, 0, 0, 0), FENNELRAKE_ACCEPTED);
+    EXPECT(fennelrake_departures(reply), FENNELRAKE_MOST_MESSAGES);
+    for (i = 0; i < 40; i++)
+        EXPECT(fennelrake_marked(reply, i), i == FENNELRAKE_QUERIES - 1);
+    EXPECT(fennelrake_marked(reply, UINT32_MAX), 0);
+    EXPECT(fennelrake_list(state, FENNELRAKE_STATE_SIZE, FENNELRAKE_QUERIES - 1, list, FENNELRAKE_LIST_ANSWER_SIZE), FENNELRAKE_ACCEPTED);
+    for (i = 0; i < FENNELRAKE_LIST_ANSWER_SIZE; i++)
+        EXPECT(list[i], 0);
+    EXPECT(fed(FENNELRAKE_DROP, 2000, 0, FENNELRAKE_QUERIES - 1, 0, 0), FENNELRAKE_ACCEPTED);
+    EXPECT(fennelrake_marks(reply), UINT32_C(0x80000000));
+    EXPECT(fennelrake_departures(reply), 0);
+}
+
+int main(void)
+{
+    unsigned i;
+
+    for (i = 0; i < PLENTY; i++) {
+        fennelrake_put_term(terms, i, (uint16_t)i);
+        amounts[i] = 1;
+    }
+    state = lent(FENNELRAKE_STATE_SIZE);
+    frame = lent(FENNELRAKE_LONGEST_FRAME);
+    reply = lent(FENNELRAKE_FRAME_ANSWER_SIZE);
+    list = lent(FENNELRAKE_LIST_ANSWER_SIZE);
+    postings = lent(FENNELRAKE_POSTINGS_SIZE);
+    words();
+    starting();
+    lengths();
+    frames();
+    writing();
+    passage();
+    free(state);
+    free(frame);
+    free(reply);
+    free(list);
+    free(postings);
+    return failures == 0 ? 0 : 1;
+}

@@ -1,0 +1,214 @@
+//! Random passages made to suit a log: besides ordinary frames, ones refused under each number from 1 to 10 in turn, frames handed again, serials
+//! used again, twins of messages, and times on which messages leave. What is met so doesn't depend on the seed.
+
+use crate::paper::{Frame, Log};
+use crate::random::Random;
+
+/// What a passage is made of.
+#[derive(Clone, Copy)]
+pub struct Style {
+    pub capacity: u32,
+    pub life: u32,
+    pub terms: u64,
+    pub counts: u64,
+    pub serials: u64,
+    pub queries: u64,
+    pub step: u64,
+    /// One frame in so many comes about a life after the one before, or on the second on which the oldest message leaves.
+    pub jump: u64,
+}
+
+/// One frame in so many is made to be refused.
+const HOSTILE: usize = 16;
+
+pub struct Source {
+    r: Random,
+    style: Style,
+    made: usize,
+    turn: u32,
+    last: Vec<u8>,
+}
+
+impl Source {
+    pub fn new(style: Style, seed: u64) -> Self {
+        Source { r: Random::new(seed), style, made: 0, turn: 1, last: Vec::new() }
+    }
+
+    /// The next frame of a passage that the log has taken in so far.
+    pub fn next(&mut self, log: &Log) -> Vec<u8> {
+        self.made += 1;
+        if self.made % HOSTILE == 0 {
+            // a log that can't refuse so yet is asked again later
+            if let Some(bytes) = self.refused(log, self.turn) {
+                assert_eq!(log.judge(&bytes).err(), Some(self.turn), "{bytes:02x?} was made to be refused");
+                self.turn = self.turn % 10 + 1;
+                return bytes;
+            }
+        }
+        if self.last.is_empty() || !self.r.one_in(30) {
+            self.last = self.any(log);
+        }
+        self.last.clone()
+    }
+
+    fn any(&mut self, log: &Log) -> Vec<u8> {
+        let time = self.time(log);
+        let mut bytes = self.frame(log, time, None).bytes();
+        let r = &mut self.r;
+        match r.below(40) {
+            0 => bytes.truncate(r.below(bytes.len() as u64 + 1) as usize),
+            1 => bytes.push(r.next() as u8),
+            2 => {
+                let i = r.below(bytes.len() as u64) as usize;
+                bytes[i] ^= 1 << r.below(8);
+            }
+            3 => {
+                let n = r.pick(4, 256, 48) as usize;
+                bytes = r.bytes(n);
+            }
+            _ => {}
+        }
+        bytes
+    }
+
+    fn time(&mut self, log: &Log) -> u32 {
+        let (r, s) = (&mut self.r, &self.style);
+        if r.one_in(20) {
+            return log.clock.saturating_sub(r.below(5) as u32);
+        }
+        let ahead = match (r.one_in(s.jump), r.below(3)) {
+            (true, 0) => s.life - 1,
+            (true, 1) => s.life,
+            (true, _) => log.in_force().first().map_or(0, |m| s.life - (log.clock - m.time)),
+            _ => r.below(s.step + 1) as u32,
+        };
+        log.clock.saturating_add(ahead)
+    }
+
+    fn frame(&mut self, log: &Log, time: u32, kind: Option<u32>) -> Frame {
+        let (r, s) = (&mut self.r, &self.style);
+        let kind = kind.unwrap_or_else(|| match r.below(24) {
+            0 | 1 => 2,
+            2..=4 => 3,
+            5 => 4,
+            _ => 1,
+        });
+        let number = r.below(s.queries) as usize;
+        match kind {
+            1 => {
+                let earlier = |r: &mut Random, last: usize| {
+                    let n = log.messages.len().min(last);
+                    (n > 0).then(|| &log.messages[log.messages.len() - 1 - r.below(n as u64) as usize])
+                };
+                let old = if r.one_in(8) { earlier(r, 2 * log.capacity) } else { None };
+                let twin = if r.one_in(6) { earlier(r, 20) } else { None };
+                Frame::Message {
+                    time,
+                    serial: old.map_or(r.below(s.serials) as u32, |m| m.serial),
+                    pairs: twin.map_or_else(|| rising(r, 16, s.terms, s.counts), |m| m.pairs.clone()),
+                }
+            }
+            2 => Frame::Tick { time },
+            3 => Frame::Register { time, number, k: 1 + r.below(16) as usize, terms: rising(r, 8, s.terms, 15) },
+            _ => Frame::Drop { time, number },
+        }
+    }
+
+    /// A frame to which this number applies, and of the lower ones none; higher ones may apply too. None where the log has nothing to refuse it for.
+    fn refused(&mut self, log: &Log, number: u32) -> Option<Vec<u8>> {
+        let mut also = [false; 11];
+        for n in number..=10 {
+            also[n as usize] = n == number || self.r.one_in(3);
+        }
+        let kind = match number {
+            5 | 6 => 1 + 2 * self.r.below(2) as u32,
+            8 => 1,
+            9 => 3,
+            10 => 4,
+            _ => 1 + self.r.below(4) as u32,
+        };
+        let mut time = log.clock.saturating_add(self.r.below(self.style.step + 1) as u32);
+        if also[7] {
+            time = log.clock.checked_sub(1 + self.r.below(5) as u32).or(log.clock.checked_sub(1)).or((number != 7).then_some(time))?;
+        }
+        let mut f = self.frame(log, time, Some(kind));
+        let r = &mut self.r;
+        let picked = |r: &mut Random, from: Vec<usize>| (!from.is_empty()).then(|| from[r.below(from.len() as u64) as usize]);
+        let in_use = |used: bool| (0..32).filter(|&q| log.queries[q].is_some() == used).collect::<Vec<_>>();
+        match &mut f {
+            Frame::Message { serial, .. } if also[8] => match picked(r, log.in_force_at(time.max(log.clock))) {
+                Some(i) => *serial = log.messages[i].serial,
+                None if number == 8 => return None,
+                None => {}
+            },
+            Frame::Register { number: q, .. } if also[9] => match picked(r, in_use(true)) {
+                Some(i) => *q = i,
+                None if number == 9 => return None,
+                None => {}
+            },
+            Frame::Drop { number: q, .. } if also[10] => match picked(r, in_use(false)) {
+                Some(i) => *q = i,
+                None if number == 10 => return None,
+                None => {}
+            },
+            _ => {}
+        }
+        if let Frame::Message { pairs, .. } | Frame::Register { terms: pairs, .. } = &mut f {
+            if also[6] {
+                let (i, p) = (r.below(pairs.len() as u64) as usize, pairs[0]);
+                let most = if kind == 1 { 16 } else { 8 };
+                if pairs.len() == most {
+                    pairs.pop();
+                }
+                // the first pair again behind another: an equal term behind the first, a lower one behind the rest
+                pairs.insert((i + 1).min(pairs.len()), p);
+            }
+            if also[5] {
+                let i = r.below(pairs.len() as u64) as usize;
+                pairs[i].1 = 0;
+            }
+        }
+        let mut bytes = f.bytes();
+        if also[4] {
+            let bits = match &f {
+                Frame::Message { pairs, .. } => 60 + 18 * pairs.len(),
+                Frame::Tick { .. } => 36,
+                Frame::Register { terms, .. } => 48 + 14 * terms.len(),
+                Frame::Drop { .. } => 41,
+            };
+            match (8 * bytes.len() - bits) as u64 {
+                0 if number == 4 => {
+                    bytes = Frame::Tick { time }.bytes();
+                    bytes[4] |= 1;
+                }
+                0 => {}
+                fill => *bytes.last_mut().unwrap() |= 1 << r.below(fill),
+            }
+        }
+        if also[3] {
+            if bytes.len() > 6 && r.one_in(2) {
+                bytes.truncate(6 + r.below(bytes.len() as u64 - 6) as usize);
+            } else {
+                let n = 1 + r.pick(4, 255 - bytes.len() as u64, 3) as usize;
+                bytes.extend(r.bytes(n));
+            }
+        }
+        if also[2] {
+            let kind = [0, 5, 6, 7, 8, 9, 10, 11, 12, 13, 14, 15][r.below(12) as usize];
+            bytes[0] = kind << 4 | bytes[0] & 15;
+        }
+        if also[1] {
+            bytes.truncate(r.below(5) as usize);
+        }
+        Some(bytes)
+    }
+}
+
+/// Pairs with rising terms below `terms` and amounts from 1 to `top`.
+fn rising(r: &mut Random, most: u64, terms: u64, top: u64) -> Vec<(u32, u32)> {
+    let n = 1 + r.below(most.min(terms));
+    let mut ts: Vec<u32> = (0..n).map(|_| r.below(terms) as u32).collect();
+    ts.sort_unstable();
+    ts.dedup();
+    ts.into_iter().map(|t| (t, 1 + r.below(top) as u32)).collect()
+}
