@@ -30,7 +30,8 @@ use Rattle.query.specs.Post.{Registered, Cleared, Over}
 use Rattle.engine.specs.declared.Reply.{Reply}
 use Rattle.engine.specs.Represents.{oldestOf, countOf, Represents, keeping}
 use Rattle.engine.specs.Inner.{SameRecord, reachedIn, Accepted}
-use Rattle.engine.proofs.MarkLaws.{bitmap-same, bitmap-more, bitmap-small}
+use Rattle.paper.proofs.MarkLaws.{bitmap-small}
+use Rattle.engine.proofs.MarkLaws.{bitmap-same, bitmap-more}
 use Rattle.engine.proofs.RepresentsLaws.{query-terms, empty-first, used-first, reached-by}
 use Rattle.engine.proofs.SameLaws.{same-thresholds, holds-still}
 
