@@ -82,6 +82,16 @@ module _ (N T : ℕ) where
           (0, ap (λ (r : List Message). m ∷ r) (sym (staying-none t l) ∙ all-stay t 0 (m .time) l (omega arith) (omega arith) (o .1)))
       go false e ih = (suc (ih .0), ih .1)
 
+  pub in-force-most : (t : ℕ) (l : List Message) → (length (inForce N T t l) ≤ length l) × (length (inForce N T t l) ≤ N)
+  unfolding inForce
+  in-force-most t [] = (omega arith, omega arith)
+  in-force-most t (m ∷ l) = go (standing N T t (length l) m) refl (in-force-most t l)
+    where
+      go : (b : Bool) → standing N T t (length l) m ≡ b → (length (inForce N T t l) ≤ length l) × (length (inForce N T t l) ≤ N)
+          → (length (cond b (m ∷ inForce N T t l) (inForce N T t l)) ≤ suc (length l)) × (length (cond b (m ∷ inForce N T t l) (inForce N T t l)) ≤ N)
+      go true e ih = let p = stands t (length l) m e in (omega arith, omega arith)
+      go false e ih = (omega arith, omega arith)
+
   -- what was in force is what departs and then what stays
   pub departing-staying : (t t′ more c : ℕ) (l : List Message) → Chronological c l → t ≤ t′ → inForce N T t l ≡ departing N T t t′ more l ++ staying t′ more l
   unfolding inForce departing staying
