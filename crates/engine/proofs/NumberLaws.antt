@@ -1,5 +1,5 @@
 -- The history's answers to registering and dropping: 9, 10, or the frame taken in. Assumes nothing.
-use Prim.Native.Nat.{ℕ, suc, _+_, _%_, _≤_, _<_, _^_}
+use Prim.Native.Nat.{ℕ, _+_, _%_, _≤_, _<_, _^_}
 use native.Mathlib.Omega.{arith}
 use mathlib.Core.Path.{_≡_, refl, sym, ap, _∙_, subst₂}
 use mathlib.Core.Bool.{Bool, true, false, cond, not}
@@ -7,8 +7,8 @@ use mathlib.Core.List.{List}
 use mathlib.Core.Option.{Option, none, some}
 use lib.ListN.{getD}
 use lib.Dec.{eqb}
-use Rattle.paper.specs.Frame.{Frame, Pair, Valid}
-use Rattle.paper.specs.Frame.Frame.{tick, register, unregister}
+use Rattle.paper.specs.Frame.{Pair}
+use Rattle.paper.specs.Frame.Frame.{register, unregister}
 use Rattle.paper.specs.Rank.{Query}
 use Rattle.paper.specs.Log.{Log, numbers, queryAt, inUse, judgeFrame}
 use Rattle.memory.specs.Words.{words}
@@ -16,8 +16,8 @@ use Rattle.window.specs.Layout.{recordAt, clockAt}
 use Rattle.window.specs.Cursor.{Loaded}
 use Rattle.query.specs.Post.{Registered, Cleared}
 use Rattle.engine.specs.declared.Reply.{Reply}
-use Rattle.engine.specs.Represents.{Represents, oldestOf, countOf}
-use Rattle.engine.specs.Inner.{Did, Ticked, Accepted}
+use Rattle.engine.specs.Represents.{Represents}
+use Rattle.engine.specs.Inner.{Did, Ticked}
 use Rattle.engine.proofs.KindLaws.{Refusal, refused-by, judged-kind}
 use Rattle.engine.proofs.RegisterLaws.{used, registered-accepted, without-held, dropped-accepted}
 

@@ -1,21 +1,18 @@
 -- What memory that holds a log keeps of each query. Assumes nothing.
-use Prim.Native.Nat.{ℕ, zero, suc, _+_, _*_, _≤_, _<_}
+use Prim.Native.Nat.{ℕ, zero, suc, _<_}
 use native.Mathlib.Omega.{arith}
-use mathlib.Core.Path.{_≡_, refl, sym, ap, ap₂, _∙_, subst}
-use mathlib.Core.Bool.{Bool, true, false, cond, not}
-use mathlib.Core.List.{List, [], _∷_, _++_, map}
+use mathlib.Core.Path.{_≡_, refl, ap, _∙_, subst}
+use mathlib.Core.List.{List, [], _∷_}
 use mathlib.Core.Option.{Option, none, some}
-use lib.ListN.{length, getD, take, drop}
-use lib.Dec.{eqb}
+use lib.ListN.{length, getD}
 use borrow.Author.Tests.{eq-eqb, ne-eqb}
 use Rattle.paper.specs.Rank.{Query}
 use Rattle.paper.specs.Window.{Message}
-use Rattle.paper.specs.Threshold.{Kept, Settled, reached}
 use Rattle.paper.specs.Log.{Log, numbers, queryAt, inForceNow}
-use Rattle.paper.specs.Sound.{Sound, Terms, Queries}
-use Rattle.paper.specs.Demand3.{Keeping, SettledAt, AllSettled, reachedBy}
+use Rattle.paper.specs.Sound.{Terms, Queries}
+use Rattle.paper.specs.Demand3.{SettledAt, AllSettled, reachedBy}
 use Rattle.window.specs.Layout.{recordAt}
-use Rattle.query.specs.Record.{sizeIn, keptOf, thresholds, Says, Holds, HoldsAt}
+use Rattle.query.specs.Record.{keptOf, Holds, HoldsAt}
 use Rattle.engine.specs.Represents.{oldestOf, countOf, Represents, keeping}
 use Rattle.engine.specs.Inner.{reachedIn}
 

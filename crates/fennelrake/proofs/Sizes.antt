@@ -1,6 +1,5 @@
 -- A display's state and buffers are small enough. The statement is in specs/Sizes.antt. Assumes nothing.
 use native.Mathlib.Omega.{arith}
-use mathlib.Core.Path.{_≡_}
 use lib.ListN.{length-map}
 use Rattle.wire.specs.Field.{total}
 use Rattle.paper.specs.Rank.{line, postings}

@@ -138,11 +138,3 @@ present-exactly t ps a l = (go (eqb (countOf t ps) 0) refl, present-above-zero t
     go : (b : Bool) → eqb (countOf t ps) 0 ≡ b → 0 < cond b 0 (impact (countOf t ps) (squares ps)) → 0 < countOf t ps
     go true e h = absurd (omega arith)
     go false e h = let n = eqb-false (countOf t ps) 0 e in omega arith
-
-pub impact-in-most : (ps : List Pair) (t : ℕ) → impactIn ps t ≤ top
-unfolding impactIn
-impact-in-most ps t = go (eqb (countOf t ps) 0)
-  where
-    go : (b : Bool) → cond b 0 (impact (countOf t ps) (squares ps)) ≤ top
-    go true = omega arith
-    go false = impact-most (countOf t ps) (squares ps)

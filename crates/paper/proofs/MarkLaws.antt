@@ -7,7 +7,7 @@ use mathlib.Core.Logic.{_↔_}
 use mathlib.Core.Bool.{Bool, true, false, cond}
 use mathlib.Core.List.{List, [], _∷_}
 use mathlib.Core.Option.{Option, none, some}
-use lib.ListN.{length, getD, set}
+use lib.ListN.{getD, set}
 use lib.Dec.{eqb, ltb}
 use lib.Pow.{pow-pos, pow-add, high}
 use borrow.Author.Tests.{eqb-true, ltb-true, ltb-false}
@@ -20,7 +20,7 @@ use Rattle.paper.specs.Window.{Message}
 use Rattle.paper.specs.Rank.{Query}
 use Rattle.paper.specs.Order.{In}
 use Rattle.paper.specs.Threshold.{Kept, reached}
-use Rattle.paper.specs.Log.{Log, Call, numbers, queryAt, inUse, inForceNow, lent, judgeShape, judgeFrame, judgeKind, judge, timeOf, accept, acceptShape, after, arrivals, departs}
+use Rattle.paper.specs.Log.{Log, Call, numbers, queryAt, inUse, inForceNow, lent, judgeShape, judgeFrame, judgeKind, judge, accept, acceptShape, after}
 use Rattle.paper.specs.Demand3.{Keeping, SettledAt, AllSettled, names, reachedBy, marked, bitmap, Reply, marksShape, replyTo, markedShape, markedBy, movedShape, moved, ExceedsKept, Answered}
 use Rattle.paper.proofs.Tests.{not-refused}
 use Rattle.paper.proofs.ThresholdLaws.{reached-exactly}
