@@ -3,19 +3,19 @@ use Prim.Native.Nat.{ℕ, _+_, _%_, _≤_, _<_, _^_}
 use native.Mathlib.Nat.{mod-eq-of-lt}
 use native.Mathlib.Omega.{arith}
 use mathlib.Core.Path.{_≡_, refl, sym, ap, ap₂, _∙_, subst, subst₂}
-use mathlib.Core.Bool.{Bool, true, false, not, _||_}
+use mathlib.Core.Bool.{Bool, true, false, _||_}
 use mathlib.Core.Logic.{inl}
 use mathlib.Core.List.{List, [], _++_, map}
 use mathlib.Core.Option.{Option, none, some}
 use lib.ListN.{length, getD, set, length-set}
 use lib.Seq.{getD-set-same, getD-set-other}
 use lib.Dec.{eqb, ltb}
-use borrow.Author.Tests.{eq-eqb, ne-eqb, eqb-true, eqb-false, ltb-true, ltb-false}
+use borrow.Author.Tests.{eqb-true, eqb-false, ltb-true, ltb-false}
 use Rattle.paper.specs.Frame.{Pair, Valid}
 use Rattle.paper.specs.Frame.Frame.{tick, register, unregister}
 use Rattle.paper.specs.Rank.{Query}
 use Rattle.paper.specs.Window.{Message}
-use Rattle.paper.specs.Log.{Log, numbers, queryAt, inUse, inForceNow, judgeFrame, accept, departs}
+use Rattle.paper.specs.Log.{Log, numbers, queryAt, inForceNow, judgeFrame, accept, departs}
 use Rattle.paper.specs.Sound.{Sound, Terms}
 use Rattle.paper.specs.Demand3.{reachedBy, marked, bitmap}
 use Rattle.paper.proofs.Tests.{or-false}
@@ -31,7 +31,7 @@ use Rattle.engine.specs.Represents.{oldestOf, countOf, Represents, keepi
 use Rattle.engine.specs.Inner.{SameRecord, reachedIn, Accepted}
 use Rattle.paper.proofs.MarkLaws.{bitmap-small}
 use Rattle.engine.proofs.MarkLaws.{bitmap-same, bitmap-more}
-use Rattle.engine.proofs.RepresentsLaws.{query-terms, empty-first, used-first, reached-by}
+use Rattle.engine.proofs.RepresentsLaws.{query-terms, reached-by}
 use Rattle.engine.proofs.SameLaws.{same-thresholds, holds-still}
 
 -- ---- one record changed
@@ -81,15 +81,6 @@ module _ (p : ℕ) (w w′ : List ℕ) (keeps : Keeps (recordAt p) (recordAt p +
           (holds-still w w′ q (keeps .long) (other-record q (eqb-false p q e)) (oldestOf w) (countOf w) (r .oldest-below) (let l = r .count-below in omega arith)
           (λ j l i. every-slot j l) (inForceNow log) (queryAt log q)
           (λ y z. query-terms (log .queries) q y (r .sound .queries) z .terms .at-most) (r .records q h))
-
--- whether a number is in use, as its record says
-pub used : (log : Log) (w : List ℕ) (q : ℕ) → Represents log w → q < numbers → inUse (queryAt log q) ≡ not (eqb (getD w (recordAt q) 0) 0)
-used log w q r h = go (queryAt log q) refl (r .records q h)
-  where
-    go : (x : Option Query) → queryAt log q ≡ x → HoldsAt w q (oldestOf w) (countOf w) (inForceNow log) x → inUse x ≡ not (eqb (getD w (recordAt q) 0) 0)
-    go none e a = rw (eq-eqb (getD w (recordAt q) 0) 0 (empty-first w q (oldestOf w) (countOf w) (inForceNow log) a))
-    go (some x) e a =
-        rw (ne-eqb (getD w (recordAt q) 0) 0 (used-first w q (oldestOf w) (countOf w) (inForceNow log) x (query-terms (log .queries) q x (r .sound .queries) e) a))
 
 -- ---- a query registered
 
