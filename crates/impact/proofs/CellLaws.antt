@@ -8,7 +8,7 @@ use mathlib.Core.Path.{_≡_, refl, sym, ap, ap₂, _∙_}
 use mathlib.Core.Bool.{Bool, true, false, cond}
 use mathlib.Core.List.{List, [], _∷_, map}
 use lib.ListN.{length, getD, take, length-map, List·getD-map}
-use lib.Seq.{length-take-le, getD-take}
+use lib.Seq.{getD-take}
 use lib.Dec.{eqb, leb, ltb}
 use borrow.Author.Tests.{ltb-true, leb-true, ne-eqb}
 use Rattle.paper.specs.Frame.{Pair, Pairs, AllFit, countWidth, mostPairs, positive, rises}
@@ -16,6 +16,7 @@ use Rattle.paper.specs.Impact.{impact, squares, countOf, impactIn}
 use Rattle.paper.specs.Write.{side-by-side}
 use Rattle.paper.proofs.Tests.{and-true}
 use Rattle.paper.proofs.ImpactLaws.{impact-most}
+use Rattle.paper.proofs.WriteLaws.{length-side}
 use Rattle.impact.specs.Cell.{packed, cellTerm, cellImpact, cellOf, cellsOf, squaresOf, lookup, RisingCells, RisingTerms}
 
 -- ---- a cell and its parts
@@ -110,7 +111,7 @@ terms-side (suc n) (t ∷ ts) (u ∷ us) h = ap (λ (l : List ℕ). t ∷ l) (te
 pub rising-side : {w most : ℕ} (n : ℕ) (ts us : List ℕ) → n ≤ length ts → n ≤ length us → Pairs w most (side-by-side n ts us) → RisingTerms n ts
 rising-side n ts us h k v =
     let e = terms-side n ts us k in
-    let l : length (side-by-side n ts us) ≡ n = sym (length-map (side-by-side n ts us) (λ q. q .term)) ∙ ap length e ∙ length-take-le n ts h in
+    let l : length (side-by-side n ts us) ≡ n = length-side n ts us h k in
     rw l at (rising-terms (side-by-side n ts us) ts v (rw l (sym e)))
 
 -- ---- the sum of squares
