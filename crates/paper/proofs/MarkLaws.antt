@@ -155,9 +155,9 @@ answered-by-log needed log kept c r kept′ settled e unmarked =
       reply = e;
       marked = λ n q q′ l before after′.
           let is : odd (r .marks / 2 ^ n) ≡ reachedBy (some q) (kept n) (moved needed log c) =
-              ap (λ (r : Reply). odd (r .marks / 2 ^ n)) e ∙ bit-marked needed log kept c n l
-              ∙ marked-reached log kept n q q′ before needed c after′
-              ∙ ap (λ (x : Option Query). reachedBy x (kept n) (moved needed log c)) before in
+          ap (λ (r : Reply). odd (r .marks / 2 ^ n)) e ∙ bit-marked needed log kept c n l
+          ∙ marked-reached log kept n q q′ before needed c after′
+          ∙ ap (λ (x : Option Query). reachedBy x (kept n) (moved needed log c)) before in
           let x = reached-kept q (inForceNow log) (kept n) (moved needed log c) (subst (λ (y : Option Query). SettledAt y (inForceNow log) (kept n)) before (settled n l)) in
           (λ h. x .0 (sym is ∙ h), λ h. is ∙ x .1 h);
       unmarked = unmarked;
