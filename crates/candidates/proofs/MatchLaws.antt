@@ -26,7 +26,7 @@ use Rattle.rank.proofs.PaperLaws.{lines-grown}
 use Rattle.window.specs.Layout.{slots}
 use Rattle.window.specs.Slot.{Slot, slot, stored, next, ring, window}
 use Rattle.candidates.specs.Match.{scoreCells, exceedsCells, reachedSlots, scored, AllRising}
-use Rattle.candidates.specs.Source.{inRing}
+use Rattle.candidates.specs.Flags.{inRing}
 use Rattle.candidates.specs.Post.{grows, RisingRing}
 
 -- ---- a stored message

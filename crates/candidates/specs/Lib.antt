@@ -1,3 +1,3 @@
 pub mod Match
-pub mod Source
+pub mod Flags
 pub mod Post

@@ -1,6 +1,6 @@
 -- How a stored message matches a query: paper's score and thresholds, read off cells. Assumes nothing.
 use Prim.Native.Nat.{ℕ, _+_, _*_}
-use mathlib.Core.Bool.{Bool, false, _||_}
+use mathlib.Core.Bool.{Bool, true, false, _||_, _&&_}
 use mathlib.Core.List.{List, [], _∷_}
 use lib.Dec.{ltb}
 use Rattle.paper.specs.Frame.{Pair}
@@ -21,6 +21,11 @@ exceedsCells (q ∷ qs) (h ∷ hs) cs = ltb h (lookup (q .term) cs) || exceedsCe
 unfoldable pub reachedSlots : List Pair → List ℕ → List Slot → Bool
 reachedSlots qs hs [] = false
 reachedSlots qs hs (x ∷ xs) = exceedsCells qs hs (x .cells) || reachedSlots qs hs xs
+
+-- whether all of the slots score below a bound
+unfoldable pub lowSlots : List Pair → ℕ → List Slot → Bool
+lowSlots qs bound [] = true
+lowSlots qs bound (x ∷ xs) = ltb (scoreCells qs (x .cells)) bound && lowSlots qs bound xs
 
 -- a slot's serial and score
 abbrev pub scored : List Pair → Slot → Line

@@ -16,7 +16,7 @@ use Rattle.window.specs.Slot.{Slot, slot, ring, window}
 use Rattle.window.specs.Cursor.{Moved, Written}
 use Rattle.window.proofs.RingLaws.{ring-last, moved-below, moved-end}
 use Rattle.window.proofs.SlotLaws.{slot-kept}
-use Rattle.candidates.specs.Source.{inRing}
+use Rattle.candidates.specs.Flags.{inRing}
 use Rattle.query.specs.Post.{arriving}
 use Rattle.engine.specs.Inner.{PutCursor}
 use Rattle.engine.proofs.SameLaws.{window-same}

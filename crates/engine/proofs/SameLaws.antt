@@ -17,7 +17,7 @@ use Rattle.rank.specs.Listing.{listed}
 use Rattle.window.specs.Layout.{slots, recordAt, recordWords}
 use Rattle.window.specs.Slot.{Slot, slot, ring, window, next}
 use Rattle.candidates.specs.Match.{exceedsCells}
-use Rattle.candidates.specs.Source.{flagOf, inRing}
+use Rattle.candidates.specs.Flags.{flagOf, inRing}
 use Rattle.query.specs.Record.{keptOf, thresholds, flags, list, candidates, HoldsAt}
 use Rattle.engine.specs.Inner.{SameRecord}
 

@@ -21,7 +21,7 @@ use Rattle.window.specs.Slot.{Slot, slot, stored, ring, window}
 use Rattle.window.specs.Cursor.{Moved}
 use Rattle.window.proofs.RingLaws.{ring-length, moved-below, moved-parts}
 use Rattle.window.proofs.SlotLaws.{window-kept}
-use Rattle.candidates.specs.Source.{inRing}
+use Rattle.candidates.specs.Flags.{inRing}
 use Rattle.query.specs.Record.{HoldsAt}
 use Rattle.query.specs.Post.{Change, arriving}
 use Rattle.engine.specs.declared.Reply.{Reply}

@@ -115,11 +115,13 @@ fn update_all(
     requires { ⌜ (gone < slots) × (first < slots) × (count < slots) ⌝ }
     ensures { λ r. ⌜ Passed numbers (words (now (state .entry))) gone departed first count newest r (words (now (state .exit))) ⌝ }
 {
+    let mut moved = [false; 1024];
+    query::add_moved(state, gone, departed, newest, &mut moved);
     let mut marks: u32 = 0;
     let mut q: usize = 0;
     while q < 32 {
         if query::in_use(state, q) {
-            if query::update(state, q, gone, departed, first, count, newest) {
+            if query::update(state, q, gone, departed, first, count, newest, &moved) {
                 marks += mark(q);
             }
         }

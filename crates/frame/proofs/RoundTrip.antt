@@ -3,7 +3,7 @@
 use Prim.Native.Nat.{ℕ, zero, suc, _≤_}
 use native.Mathlib.Nat.{not-suc-le-zero, le-of-suc-le-suc}
 use native.Mathlib.Omega.{arith}
-use mathlib.Core.Path.{_≡_, refl, sym, ap, ap₂, _∙_}
+use mathlib.Core.Path.{_≡_, refl, sym, ap, _∙_}
 use mathlib.Core.List.{List, [], _∷_, _++_, map}
 use lib.ListN.{length, take, drop, length-map}
 use lib.Seq.{take-at}
@@ -48,15 +48,10 @@ beside-padded n [] h = refl
 beside-padded zero (p ∷ ps) h = absurd (not-suc-le-zero h)
 beside-padded (suc n) (p ∷ ps) h = ap (λ (l : List Pair). p ∷ l) (beside-padded n ps (le-of-suc-le-suc h))
 
-padded-all : (xs : List ℕ) → padded (length xs) xs ≡ xs
-padded-all [] = refl
-padded-all (x ∷ xs) = ap (λ (l : List ℕ). x ∷ l) (padded-all xs)
-
 beside-all : (ps : List Pair) → side-by-side (length ps) (map (λ p. p .term) ps) (map (λ p. p .amount) ps) ≡ ps
-beside-all ps =
-    let t : padded (length ps) (map (λ p. p .term) ps) ≡ map (λ p. p .term) ps = ap (λ (n : ℕ). padded n (map (λ p. p .term) ps)) (sym (length-map ps (λ p. p .term))) ∙ padded-all (map (λ p. p .term) ps) in
-    let a : padded (length ps) (map (λ p. p .amount) ps) ≡ map (λ p. p .amount) ps = ap (λ (n : ℕ). padded n (map (λ p. p .amount) ps)) (sym (length-map ps (λ p. p .amount))) ∙ padded-all (map (λ p. p .amount) ps) in
-    ap₂ (side-by-side (length ps)) (sym t) (sym a) ∙ beside-padded (length ps) ps (omega arith)
+unfolding side-by-side
+beside-all [] = refl
+beside-all (p ∷ ps) = ap (λ (l : List Pair). p ∷ l) (beside-all ps)
 
 -- places past the pairs make no difference
 array-fields : (kind t s n k : ℕ) (ps : List Pair) → length ps ≤ mostPairs

@@ -7,7 +7,7 @@ use mathlib.Core.List.{List, [], _∷_, map}
 use lib.ListN.{length}
 use lib.Dec.{eqb, leb}
 use Rattle.wire.specs.Field.{field}
-use Rattle.paper.specs.Frame.{Pair, Shape, positive, rising, pairsAt, bytesFor, fillAfter, termWidth, mostPairs}
+use Rattle.paper.specs.Frame.{Pair, Shape, positive, rising, pairsAt, bytesFor, fillAfter, termWidth, mostPairs, timeOfBytes}
 use Rattle.paper.specs.Frame.Frame.{message, tick, register, unregister}
 use Rattle.paper.specs.Frame.Shape.{refused, accepted}
 use Rattle.frame.specs.declared.Kind.{Kind}
@@ -51,6 +51,10 @@ pub record ReadPost (sh : Shape) (r : Parsed) : Type 0 where
   pub amounts : r .amounts ≡ amountArray (pairsIn sh)
 
 -- ---- the inner functions
+
+-- kind and time are taken, and the reader stands after their 36 bits
+abbrev pub Started : List ℕ → ℕ → ℕ → Type 0
+Started s at time = (at ≡ 36) × (time ≡ timeOfBytes s)
 
 -- 5 or 6, or 0, of pairs
 unfoldable pub pairsNumber : Bool → List Pair → ℕ

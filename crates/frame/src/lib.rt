@@ -4,12 +4,12 @@ ghost use Prim.Native.Nat.{_+_, _*_, _≤_, _<_, _^_};
 ghost use lib.ListN.{length};
 ghost use mathlib.Core.List.{[], _∷_};
 ghost use Rattle.wire.specs.Bits.{unpack};
-ghost use Rattle.wire.specs.Field.{placed, spell};
+ghost use Rattle.wire.specs.Field.{field, placed, spell};
 ghost use Rattle.paper.specs.Frame.{Shape, shape, shapeOfKind, bytesFor, fillAfter, tickHead};
 ghost use Rattle.paper.specs.Frame.Shape.{refused};
 ghost use Rattle.paper.specs.Frame.Frame.{message, register};
 ghost use Rattle.paper.specs.Write.{fromFields, side-by-side};
-ghost use Rattle.frame.specs.Read.{ReadPost, PairsPost, CheckedPost, judgeNext, fitNumber};
+ghost use Rattle.frame.specs.Read.{ReadPost, PairsPost, CheckedPost, Started, judgeNext, fitNumber};
 ghost use Rattle.frame.specs.Write.{WritePost, PutPost, fields, soundPair, soundQuery, enoughPairs, pairsVerdict, pairBits, laid};
 
 // What a frame is, or the number that refuses it. Its pairs stand beside it, in Parsed.
@@ -136,20 +136,21 @@ fn refusal(number: u32) -> Parsed
     }
 }
 
-fn read_message(bytes: &[u8]) -> Parsed
+// A message's fields from bit `at`, which stands after kind and time.
+fn read_message(bytes: &[u8], at: usize, time: u32) -> Parsed
+    requires { ⌜ Started (now bytes) at time ⌝ }
     ensures { λ r. ⌜ ReadPost (shapeOfKind 1 (now (bytes .entry))) r ⌝ }
 {
     // too short for the number of pairs, and so for any pair
     if bytes.len() < 8 {
         return refusal(3);
     }
-    let pairs = wire::take_bits(bytes, 56, 4) as usize + 1;
-    let p = checked_pairs(bytes, 60, 8, pairs);
+    let serial = wire::take_bits(bytes, at, 20);
+    let pairs = wire::take_bits(bytes, at + 20, 4) as usize + 1;
+    let p = checked_pairs(bytes, at + 24, 8, pairs);
     if p.number != 0 {
         return refusal(p.number);
     }
-    let time = wire::take_bits(bytes, 4, 32);
-    let serial = wire::take_bits(bytes, 36, 20);
     let terms = p.terms;
     let amounts = p.amounts;
     Parsed {
@@ -163,14 +164,14 @@ fn read_message(bytes: &[u8]) -> Parsed
     }
 }
 
-fn read_tick(bytes: &[u8]) -> Parsed
+fn read_tick(bytes: &[u8], at: usize, time: u32) -> Parsed
+    requires { ⌜ Started (now bytes) at time ⌝ }
     ensures { λ r. ⌜ ReadPost (shapeOfKind 2 (now (bytes .entry))) r ⌝ }
 {
-    let p = checked_pairs(bytes, 36, 0, 0);
+    let p = checked_pairs(bytes, at, 0, 0);
     if p.number != 0 {
         return refusal(p.number);
     }
-    let time = wire::take_bits(bytes, 4, 32);
     let terms = p.terms;
     let amounts = p.amounts;
     Parsed {
@@ -180,21 +181,21 @@ fn read_tick(bytes: &[u8]) -> Parsed
     }
 }
 
-fn read_register(bytes: &[u8]) -> Parsed
+fn read_register(bytes: &[u8], at: usize, time: u32) -> Parsed
+    requires { ⌜ Started (now bytes) at time ⌝ }
     ensures { λ r. ⌜ ReadPost (shapeOfKind 3 (now (bytes .entry))) r ⌝ }
 {
     // too short for the number of terms, and so for any term
     if bytes.len() < 6 {
         return refusal(3);
     }
-    let n = wire::take_bits(bytes, 45, 3) as usize + 1;
-    let p = checked_pairs(bytes, 48, 4, n);
+    let number = wire::take_bits(bytes, at, 5);
+    let k = wire::take_bits(bytes, at + 5, 4) + 1;
+    let n = wire::take_bits(bytes, at + 9, 3) as usize + 1;
+    let p = checked_pairs(bytes, at + 12, 4, n);
     if p.number != 0 {
         return refusal(p.number);
     }
-    let time = wire::take_bits(bytes, 4, 32);
-    let number = wire::take_bits(bytes, 36, 5);
-    let k = wire::take_bits(bytes, 41, 4) + 1;
     let terms = p.terms;
     let amounts = p.amounts;
     Parsed {
@@ -209,15 +210,15 @@ fn read_register(bytes: &[u8]) -> Parsed
     }
 }
 
-fn read_unregister(bytes: &[u8]) -> Parsed
+fn read_unregister(bytes: &[u8], at: usize, time: u32) -> Parsed
+    requires { ⌜ Started (now bytes) at time ⌝ }
     ensures { λ r. ⌜ ReadPost (shapeOfKind 4 (now (bytes .entry))) r ⌝ }
 {
-    let p = checked_pairs(bytes, 41, 0, 0);
+    let p = checked_pairs(bytes, at + 5, 0, 0);
     if p.number != 0 {
         return refusal(p.number);
     }
-    let time = wire::take_bits(bytes, 4, 32);
-    let number = wire::take_bits(bytes, 36, 5);
+    let number = wire::take_bits(bytes, at, 5);
     let terms = p.terms;
     let amounts = p.amounts;
     Parsed {
@@ -227,6 +228,33 @@ fn read_unregister(bytes: &[u8]) -> Parsed
     }
 }
 
+// The fields of any kind from bit `at`.
+fn read_kind(bytes: &[u8], at: usize, kind: u32, time: u32) -> Parsed
+    requires { ⌜ Started (now bytes) at time ⌝ }
+    ensures { λ r. ⌜ ReadPost (shapeOfKind kind (now (bytes .entry))) r ⌝ }
+{
+    match kind {
+        1 => read_message(bytes, at, time),
+        2 => read_tick(bytes, at, time),
+        3 => read_register(bytes, at, time),
+        4 => read_unregister(bytes, at, time),
+        _ => refusal(2),
+    }
+}
+
+// The fields in order from one reader: kind and time, and then those of the kind from the bit where it stands.
+fn read_fields(bytes: &[u8]) -> Parsed
+    requires { ⌜ 5 ≤ length (now bytes) ⌝ }
+    ensures { λ r. ⌜ ReadPost (shapeOfKind (field (now (bytes .entry)) 0 4) (now (bytes .entry))) r ⌝ }
+{
+    let r = wire::BitReader::new(bytes);
+    let kind = r.take(4);
+    let r = r.after(4);
+    let time = r.take(32);
+    let r = r.after(32);
+    read_kind(r.frame, r.at, kind, time)
+}
+
 // What the bytes are: a frame, or the first of the refusals 1 to 6 that applies.
 pub fn read(bytes: &[u8]) -> Parsed
     ensures { λ r. ⌜ ReadPost (shape (now (bytes .entry))) r ⌝ }
@@ -234,13 +262,7 @@ pub fn read(bytes: &[u8]) -> Parsed
     if bytes.len() < 5 {
         return refusal(1);
     }
-    match wire::take_bits(bytes, 0, 4) {
-        1 => read_message(bytes),
-        2 => read_tick(bytes),
-        3 => read_register(bytes),
-        4 => read_unregister(bytes),
-        _ => refusal(2),
-    }
+    read_fields(bytes)
 }
 
 // What a writing answers: 0 and the frame's length in bytes, or the refusal and 0.

@@ -1,6 +1,6 @@
 -- Why thresholds are enough: candidates give the whole ranking, and a query that a change of the window doesn't reach stays settled.
 -- Assumes nothing.
-use Prim.Native.Nat.{ℕ, zero, suc, _*_, _≤_, _<_}
+use Prim.Native.Nat.{ℕ, zero, suc, _*_, _-_, _≤_, _<_}
 use native.Mathlib.Nat.{eq-or-lt-of-le, mul-le-mul-left, mul-zero}
 use native.Mathlib.Omega.{arith}
 use mathlib.Core.Path.{_≡_, refl, sym, ap, _∙_, subst}
@@ -10,16 +10,16 @@ use mathlib.Core.Logic.{_⊎_, inl, inr, ⊎-elim, _↔_}
 use mathlib.Core.List.{List, [], _∷_, _++_, map, append-nil, cons≢nil}
 use lib.ListN.{length, getD, take}
 use lib.Dec.{ltb}
-use borrow.Author.Tests.{ltb-true, ltb-false, lt-ltb, le-leb, lt-leb}
+use borrow.Author.Tests.{ltb-true, ltb-false, lt-ltb, le-ltb, le-leb, lt-leb}
 use Rattle.paper.specs.Frame.{Pair}
 use Rattle.paper.specs.Window.{Message}
 use Rattle.paper.specs.Impact.{impactIn, score}
+use Rattle.paper.specs.Order.{In}
 use Rattle.paper.specs.Sort.{select, sort}
 use Rattle.paper.specs.Rank.{Query, Entry, ahead, entry, scoring, entries, ranking, lines, serials}
-use Rattle.paper.specs.Order.{In}
 use Rattle.paper.specs.Threshold.{termAt, thresholdSum, Exceeds, exceeds, candidates, reached, lastScore, Tight, Kept, Settled}
 use Rattle.paper.proofs.Tests.{or-false, or-true}
-use Rattle.paper.proofs.SortLaws.{select-append, select-all, select-in, select-take, select-select, select-map, count-sort, best}
+use Rattle.paper.proofs.SortLaws.{select-append, select-all, select-none, select-in, select-take, select-select, select-map, count-sort, best}
 use Rattle.paper.proofs.RankLaws.{ranking-length, ranking-last}
 
 -- ---- a message that exceeds no threshold
@@ -133,6 +133,37 @@ module _ (q : Query) (s : ℕ) (ms ms′ : List Message) (e : select (above s) (
       let n = full-above q s ms (f .0) (f .1) in
       best-above q s (scored q ms) n ∙ ap (first q) e ∙ sym (best-above q s (scored q ms′) (subst (λ es. q .k ≤ length es) e n))
 
+-- ---- messages that score above s
+
+abbrev high : Query → ℕ → Message → Bool
+high q s m = ltb s (score (q .terms) (m .pairs))
+
+scored-above : (q : Query) (s : ℕ) (ms : List Message) → select (above s) (scored q ms) ≡ map (entry (score (q .terms))) (select (high q s) ms)
+scored-above q s ms =
+    select-select (above s) scoring (λ x p. omega (arith, ltb-true, lt-ltb)) (map (entry (score (q .terms))) ms)
+    ∙ select-map (entry (score (q .terms))) (above s) ms
+
+-- messages that score less than the last of a full list come and go without changing it
+pub outranked : (q : Query) (gone stay come : List Message) → length (ranking q (gone ++ stay)) ≡ q .k → 0 < lastScore (ranking q (gone ++ stay))
+    → ((m : Message) → In m gone → score (q .terms) (m .pairs) < lastScore (ranking q (gone ++ stay)))
+    → ((m : Message) → In m come → score (q .terms) (m .pairs) < lastScore (ranking q (gone ++ stay))) → ranking q (gone ++ stay) ≡ ranking q (stay ++ come)
+outranked q gone stay come full positive low-gone low-come =
+    ranking-agrees q s (gone ++ stay) (stay ++ come)
+    (scored-above q s (gone ++ stay) ∙ ap (map (entry (score (q .terms)))) (before ∙ sym after) ∙ sym (scored-above q s (stay ++ come)))
+    (inr (full, omega arith))
+  where
+    s : ℕ
+    s = lastScore (ranking q (gone ++ stay)) - 1
+
+    none : (ms : List Message) → ((m : Message) → In m ms → score (q .terms) (m .pairs) < lastScore (ranking q (gone ++ stay))) → select (high q s) ms ≡ []
+    none ms low = select-none (high q s) ms (λ m i. le-ltb s (score (q .terms) (m .pairs)) (let l = low m i in omega arith))
+
+    before : select (high q s) (gone ++ stay) ≡ select (high q s) stay
+    before = select-append (high q s) gone stay ∙ ap (λ (l : List Message). l ++ select (high q s) stay) (none gone low-gone)
+
+    after : select (high q s) (stay ++ come) ≡ select (high q s) stay
+    after = select-append (high q s) stay come ∙ ap (λ (l : List Message). select (high q s) stay ++ l) (none come low-come) ∙ append-nil (select (high q s) stay)
+
 -- ---- candidates
 
 module _ (q : Query) (hs : List ℕ) (one-each : length hs ≡ length (q .terms)) (ms : List Message) where
@@ -145,18 +176,10 @@ module _ (q : Query) (hs : List ℕ) (one-each : length hs ≡ length (q .terms)
   -- whoever scores above the sum is a candidate
   candidates-above : select (above sum) (scored q those) ≡ select (above sum) (scored q ms)
   candidates-above =
-      scored-above those
+      scored-above q sum those
       ∙ ap (map (entry (score (q .terms))))
-      (select-select high (λ m. exceeds (q .terms) hs (m .pairs)) (λ m p. above-exceeds (q .terms) hs (m .pairs) one-each (omega (arith, ltb-true))) ms)
-      ∙ sym (scored-above ms)
-    where
-      high : Message → Bool
-      high m = ltb sum (score (q .terms) (m .pairs))
-
-      scored-above : (ms : List Message) → select (above sum) (scored q ms) ≡ map (entry (score (q .terms))) (select high ms)
-      scored-above ms =
-          select-select (above sum) scoring (λ x p. omega (arith, ltb-true, lt-ltb)) (map (entry (score (q .terms))) ms)
-          ∙ select-map (entry (score (q .terms))) (above sum) ms
+      (select-select (high q sum) (λ m. exceeds (q .terms) hs (m .pairs)) (λ m p. above-exceeds (q .terms) hs (m .pairs) one-each (omega (arith, ltb-true))) ms)
+      ∙ sym (scored-above q sum ms)
 
   -- ranking the candidates is enough, where their list is safe ..
   pub candidates-enough : Safe sum (q .k) (ranking q those) → ranking q those ≡ ranking q ms
@@ -172,6 +195,20 @@ settled-safe : (q : Query) (ms : List Message) (kept : Kept) → Settled q ms ke
 settled-safe q ms kept s =
     ⊎-elim (λ e. inr (e, omega (arith, s .full e .safe))) (λ l. inl (sum-zero (q .terms) (kept .thresholds) (s .short l))) (eq-or-lt-of-le (ranking-length q ms))
 
+-- the same ranking, beside its candidates
+pub settled-again : (q : Query) (ms ms′ : List Message) (kept : Kept) (cs : List ℕ) → Settled q ms kept → ranking q ms ≡ ranking q ms′
+    → cs ≡ serials (candidates (q .terms) (kept .thresholds) ms′) → Settled q ms′ (record { thresholds = kept .thresholds; candidates = cs; list = kept .list })
+settled-again q ms ms′ kept cs s e c =
+    let hs = kept .thresholds in
+    record {
+      one-each = s .one-each;
+      in-scale = s .in-scale;
+      ranked = s .ranked ∙ ap lines e;
+      above = c;
+      full = subst (λ l. length l ≡ q .k → Tight (q .terms) hs (lastScore l)) e (s .full);
+      short = subst (λ l. length l < q .k → (i : ℕ) → getD hs i 0 ≡ 0) e (s .short);
+    }
+
 -- messages with the same candidates
 pub settled-same : (q : Query) (ms ms′ : List Message) (kept : Kept) → Settled q ms kept
     → candidates (q .terms) (kept .thresholds) ms ≡ candidates (q .terms) (kept .thresholds) ms′ → Settled q ms′ kept
@@ -180,14 +217,7 @@ settled-same q ms ms′ kept s c =
     let safe = settled-safe q ms kept s in
     let same : ranking q ms ≡ ranking q (candidates (q .terms) hs ms′) = sym (candidates-keep q hs (s .one-each) ms safe) ∙ ap (ranking q) c in
     let e : ranking q ms ≡ ranking q ms′ = same ∙ candidates-enough q hs (s .one-each) ms′ (subst (Safe (thresholdSum (q .terms) hs) (q .k)) same safe) in
-    record {
-      one-each = s .one-each;
-      in-scale = s .in-scale;
-      ranked = s .ranked ∙ ap lines e;
-      above = s .above ∙ ap serials c;
-      full = subst (λ l. length l ≡ q .k → Tight (q .terms) hs (lastScore l)) e (s .full);
-      short = subst (λ l. length l < q .k → (i : ℕ) → getD hs i 0 ≡ 0) e (s .short);
-    }
+    settled-again q ms ms′ kept (kept .candidates) s e (s .above ∙ ap serials c)
 
 unreached : (qs : List Pair) (hs : List ℕ) (ms : List Message) → reached qs hs ms ≡ false → candidates qs hs ms ≡ []
 unfolding reached select

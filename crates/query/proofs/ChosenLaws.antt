@@ -20,12 +20,7 @@ use Rattle.candidates.specs.Match.{exceedsCells, reachedSlots, AllRising}
 use Rattle.candidates.proofs.MatchLaws.{exceeds-stored, all-rising, reached-stored, select-agree, taken-slots}
 use Rattle.query.specs.Post.{Over}
 
--- ---- selecting
-
-pub select-none : {A : Type 0} (test : A → Bool) (l : List A) → ((x : A) → In x l → test x ≡ false) → select test l ≡ []
-unfolding select
-select-none test [] h = refl
-select-none test (x ∷ xs) h = rw (h x (inl refl)) (select-none test xs (λ y m. h y (inr m)))
+-- ---- in two lists
 
 pub in-append : {A : Type 0} (a : A) (xs ys : List A) → In a (xs ++ ys) → In a xs ⊎ In a ys
 in-append a [] ys m = inr m

@@ -4,6 +4,8 @@ pub mod LiftLaws
 pub mod KeptLaws
 pub mod SettleLaws
 pub mod UpdateLaws
+pub mod StandLaws
+pub mod MovedLaws
 pub mod FillLaws
 pub mod QueryLaws
 pub mod StoreLaws

@@ -14,12 +14,8 @@ use Rattle.rank.specs.declared.Ranked.{Ranked}
 use Rattle.rank.specs.Listing.{linesOf, lastOf}
 use Rattle.rank.specs.Weights.{Below, weightLimit, valueLimit, Slack, Raised}
 use Rattle.candidates.specs.declared.Query.{Query}
+use Rattle.candidates.proofs.FlagLaws.{zero-at}
 use Rattle.query.specs.Post.{InRange, sumOf, Room, Lifted, secure}
-
-pub zero-at : (n i : ℕ) → _≡_ {A = ℕ} (getD (replicate n 0) i 0) 0
-zero-at zero i = refl
-zero-at (suc n) zero = refl
-zero-at (suc n) (suc i) = zero-at n i
 
 pub weights-below : {r : Query} → InRange r → Below (r .n) weightLimit (r .weights)
 weights-below range i h = let m = range .n-most in range .weights-most i (omega arith)

@@ -42,6 +42,12 @@ weight-range [] a e i h = absurd (not-suc-le-zero h)
 weight-range (q ∷ qs) a e zero h = (ltb-true 0 (q .amount) (and-true (ltb 0 (q .amount)) (positive qs) e .0), a .1)
 weight-range (q ∷ qs) a e (suc i) h = weight-range qs (a .2) (and-true (ltb 0 (q .amount)) (positive qs) e .1) i (omega arith)
 
+term-range : (qs : List Pair) → AllFit weightWidth qs → (i : ℕ) → i < length qs → termAt qs i < 1024
+unfolding termAt
+term-range [] a i h = absurd (not-suc-le-zero h)
+term-range (q ∷ qs) a zero h = a .0
+term-range (q ∷ qs) a (suc i) h = term-range qs (a .2) i (omega arith)
+
 -- two arrays that start with these terms and weights
 side-is : (qs : List Pair) (ts us : List ℕ) → length qs ≤ length ts → length qs ≤ length us
     → ((i : ℕ) → i < length qs → (getD ts i 0 ≡ termAt qs i) × (getD us i 0 ≡ weightAt qs i)) → side-by-side (length qs) ts us ≡ qs
@@ -115,3 +121,15 @@ loaded-thresholds w q {hs} h f = record { in-scale = in-scale; is = is }
     is low =
         ext-getD 0 hs (take 8 (drop (thresholdsIn q) w)) (f .wide ∙ sym (simp (length-take, length-drop) (omega arith)))
         (λ i l. let b : i < 8 = omega (arith, f .wide) in f .each i b .is (omega arith) (rw (part-at w (thresholdsIn q) i b) (low i b)))
+
+-- ---- what a record says, word by word
+
+module _ {w : List ℕ} {q : ℕ} {query : Rank.Query} (terms : Terms query) (says : Says w q query) where
+  pub size-said : {n : ℕ} → Clamped 1 8 (getD w (sizeIn q) 0) n → n ≡ length (query .terms)
+  size-said c = c .is (omega (arith, says .size, terms .terms .least-one)) (omega (arith, says .size, terms .terms .at-most)) ∙ says .size
+
+  pub term-said : (i : ℕ) → i < length (query .terms) → getD w (pairsIn q + i) 0 / 16 % 1024 ≡ termAt (query .terms) i
+  term-said i h =
+      let u = weight-range (query .terms) (terms .terms .fit) (terms .terms .above-zero) i h in
+      let t = term-range (query .terms) (terms .terms .fit) i h in
+      omega (arith, says .pairs i h)

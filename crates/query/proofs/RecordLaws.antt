@@ -25,7 +25,7 @@ use Rattle.window.specs.Slot.{slot, ring}
 use Rattle.window.proofs.SlotLaws.{slot-kept}
 use Rattle.candidates.proofs.MatchLaws.{in-ring}
 use Rattle.candidates.specs.Match.{exceedsCells}
-use Rattle.candidates.specs.Source.{flagOf, inRing}
+use Rattle.candidates.specs.Flags.{flagOf, inRing}
 use Rattle.query.specs.Record.{sizeIn, pairsIn, listedIn, thresholdsIn, serialsIn, scoresIn, flagsIn, thresholds, flags, list, candidates, Says, Holds, HoldsAt}
 
 -- functions that agree on a list's elements

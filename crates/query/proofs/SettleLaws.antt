@@ -24,7 +24,6 @@ use Rattle.paper.specs.Threshold.{exceeds, thresholdSum, lastScore, Tight, Sett
 use Rattle.paper.specs.Threshold as Threshold
 use Rattle.paper.proofs.Tests.{and-true}
 use Rattle.paper.proofs.RankLaws.{ranking-right, ranking-length}
-use Rattle.paper.proofs.SortLaws.{select-all}
 use Rattle.paper.proofs.ThresholdLaws.{sum-zero, Safe, candidates-enough}
 use Rattle.impact.specs.Cell.{lookup}
 use Rattle.rank.specs.declared.Ranked.{Ranked}
@@ -36,15 +35,15 @@ use Rattle.window.specs.Layout.{slots, recordAt}
 use Rattle.window.specs.Slot.{slot, stored, ring, window}
 use Rattle.window.proofs.SlotLaws.{slot-kept}
 use Rattle.candidates.specs.declared.Query.{Query}
-use Rattle.candidates.specs.declared.Source.{Source}
 use Rattle.candidates.specs.Match.{exceedsCells, scored}
-use Rattle.candidates.specs.Source.{flagOf, inRing}
-use Rattle.candidates.specs.Post.{termsOf, takes, lineIn, grows, RankedBy, Sifted}
+use Rattle.candidates.specs.Flags.{flagOf, inRing}
+use Rattle.candidates.specs.Post.{termsOf, lineIn, grows, RankedBy, Sifted, Flagging}
+use Rattle.candidates.proofs.FlagLaws.{zero-at}
 use Rattle.candidates.proofs.MatchLaws.{in-ring, rising-ring, ranking-stored}
 use Rattle.query.specs.Record.{thresholds, flags, candidates, keptOf, Says, Holds}
 use Rattle.query.specs.Post.{InRange, Is, sumOf, Room, Lifted, secure, StoredKept, Over, Ready}
 use Rattle.query.proofs.ChosenLaws.{messages-select, over-rising, chosen, serials-of}
-use Rattle.query.proofs.LiftLaws.{zero-at, secure-safe}
+use Rattle.query.proofs.LiftLaws.{secure-zero, secure-safe}
 use Rattle.query.proofs.RecordLaws.{says-same}
 use Rattle.query.proofs.KeptLaws.{over-kept, thresholds-stored, threshold-stored, flags-stored, list-stored}
 
@@ -139,8 +138,8 @@ record Next (query : Rank.Query) (ms : List Message) (n : ℕ) (hs hs′ : List 
   full : length (ranking query ms) ≡ query .k → Tight (query .terms) (take n hs′) (lastScore (ranking query ms))
   short : length (ranking query ms) < query .k → (i : ℕ) → getD hs′ i 0 ≡ 0
 
-module _ {w : List ℕ} {q o n : ℕ} {ms : List Message} {query : Rank.Query} {s : Source} {r : Query} {hs hs′ : List ℕ} {l : Ranked} where
-  next : Ready w q o n ms query s r hs l → Sixteen l → Lifted r hs l hs′ → Next query ms (r .n) hs hs′
+module _ {w : List ℕ} {q o n : ℕ} {ms : List Message} {query : Rank.Query} {fs : List ℕ} {r : Query} {hs hs′ : List ℕ} {l : Ranked} where
+  next : Ready w q o n ms query fs r hs l → Sixteen l → Lifted r hs l hs′ → Next query ms (r .n) hs hs′
   next ready long lifted = ⊎-elim full short (eq-or-lt-of-le (ranking-length query ms))
     where
       counted : l .count ≡ length (ranking query ms)
@@ -180,9 +179,9 @@ and-drop true false false h = refl
 and-drop true false true h = absurd (false≢true (h refl refl))
 and-drop false b c h = refl
 
-module _ {w : List ℕ} {q o n : ℕ} {s : Source} {r : Query} {hs hs′ : List ℕ} {l : Ranked} {fs w′ : List ℕ} (ho : o < slots) (range : InRange r)
-    (long : Sixteen l) (eight : length hs ≡ 8) (eight′ : length hs′ ≡ 8) (lifted : Lifted r hs l hs′) (sifted : Sifted w o n s r hs′ fs)
-    (kept : StoredKept q hs′ l fs w w′) (ms : List Message) (query : Rank.Query) (ready : Ready w q o n ms query s r hs l) where
+module _ {w : List ℕ} {q o n : ℕ} {fs : List ℕ} {r : Query} {hs hs′ : List ℕ} {l : Ranked} {kept-fs w′ : List ℕ} (ho : o < slots) (range : InRange r)
+    (long : Sixteen l) (eight : length hs ≡ 8) (eight′ : length hs′ ≡ 8) (lifted : Lifted r hs l hs′) (sifted : Sifted w o n fs r hs′ kept-fs)
+    (kept : StoredKept q hs′ l kept-fs w w′) (ms : List Message) (query : Rank.Query) (ready : Ready w q o n ms query fs r hs l) where
   settled-by : Next query ms (r .n) hs hs′
   settled-by = next ready long lifted
 
@@ -196,8 +195,8 @@ module _ {w : List ℕ} {q o n : ℕ} {s : Source} {r : Query} {hs hs′ : List 
   first-ones : thresholds w′ q (length (query .terms)) ≡ take (r .n) hs′
   first-ones = thresholds-stored kept (length (query .terms)) (omega (arith, most, ready .is .n)) ∙ ap (λ (m : ℕ). take m hs′) (sym (ready .is .n))
 
-  -- whoever exceeds one of the higher thresholds is taken
-  taken : (j : ℕ) → j < slots → inRing o n j ≡ true → exceedsCells (query .terms) (take (r .n) hs′) (slot w j .cells) ≡ true → takes s j ≡ true
+  -- whoever exceeds one of the higher thresholds is flagged
+  taken : (j : ℕ) → j < slots → inRing o n j ≡ true → exceedsCells (query .terms) (take (r .n) hs′) (slot w j .cells) ≡ true → flagOf fs j ≡ true
   taken j h i e =
       ready .taken j h i
       (exceeds-lower (query .terms) (take (r .n) hs) (take (r .n) hs′) (slot w j .cells) (simp length-take (omega (arith, most))) higher e)
@@ -214,8 +213,8 @@ module _ {w : List ℕ} {q o n : ℕ} {s : Source} {r : Query} {hs hs′ : List 
   flagged j h =
       ap (λ (xs : List ℕ). flagOf xs j) (flags-stored kept)
       ∙ sifted .right (rising-ring w o n ho (over-rising (ready .over))) (ready .is .rising) j h
-      ∙ ap (λ (qs : List Pair). inRing o n j && takes s j && exceedsCells qs (take (r .n) hs′) (slot w j .cells)) (ready .is .terms)
-      ∙ and-drop (inRing o n j) (takes s j) (exceedsCells (query .terms) (take (r .n) hs′) (slot w j .cells)) (taken j h)
+      ∙ ap (λ (qs : List Pair). inRing o n j && flagOf fs j && exceedsCells qs (take (r .n) hs′) (slot w j .cells)) (ready .is .terms)
+      ∙ and-drop (inRing o n j) (flagOf fs j) (exceedsCells (query .terms) (take (r .n) hs′) (slot w j .cells)) (taken j h)
       ∙ rw (first-ones, slot-kept (kept .keeps) j (inl (omega arith)))
 
   above : candidates w′ q o n ≡ serials (Threshold.candidates (query .terms) (thresholds w′ q (length (query .terms))) ms)
@@ -256,7 +255,7 @@ last-scores f (p ∷ []) h l = h p (inl refl)
 last-scores f (p ∷ r ∷ ps) h l = last-scores f (r ∷ ps) (λ x m. h x (inr m)) (omega arith)
 
 -- only positive scores are ranked
-last-positive : (query : Rank.Query) (ms : List Message) → 1 ≤ length (ranking query ms) → 0 < lastScore (ranking query ms)
+pub last-positive : (query : Rank.Query) (ms : List Message) → 1 ≤ length (ranking query ms) → 0 < lastScore (ranking query ms)
 last-positive query ms h =
     let r = ranking-right query ms in
     let f : ℕ → Entry = entryAt (score (query .terms)) ms in
@@ -273,29 +272,10 @@ listed-is {r} {query} w js ms is e v =
     ∙ ap (grows (query .k) []) (sym (map-map (scored (query .terms)) (slot w) js) ∙ ap (map (scored (query .terms))) e)
     ∙ ranking-stored query ms v
 
-module _ {w : List ℕ} {q o n : ℕ} {s : Source} {r : Query} {l : Ranked} (ho : o < slots) (by : RankedBy w o n s r l)
+module _ {w : List ℕ} {q o n : ℕ} {fs : List ℕ} {r : Query} {l : Ranked} (ho : o < slots) (by : RankedBy w o n fs r l)
     (ms : List Message) (query : Rank.Query) (over : Over w o n ms) (terms : Terms query) (says : Says w q query) (is : Is r query) where
-  -- the whole window, from zero thresholds
-  pub ready-all : ((j : ℕ) → takes s j ≡ true) → Ready w q o n ms query s r (replicate 8 0) l
-  ready-all all = record {
-    over = over;
-    terms = terms;
-    says = says;
-    is = is;
-    ranked =
-        by .right (over-rising over) (is .rising)
-        ∙ listed-is w (select (takes s) (ring o n)) ms is (ap (map (slot w)) (select-all (takes s) (ring o n) (λ j m. all j)) ∙ over .shows) (over .valid);
-    tidy = by .tidy;
-    unused = λ i h. zero-at 8 i;
-    safe = λ e.
-        let z = sum-zero (query .terms) (take (r .n) (replicate 8 0)) (λ i. ⊎-elim (λ a. a .0 ∙ zero-at 8 i) (λ a. a .0) (cut (r .n) (replicate 8 0) i)) in
-        omega (arith, last-positive query ms (omega (arith, terms .k-least)));
-    short = λ h i. zero-at 8 i;
-    taken = λ j h i e. all j;
-  }
-
   module _ (hs : List ℕ) (eight : length hs ≡ 8) (range : InRange r) (long : Sixteen l) (unused : (i : ℕ) → r .n ≤ i → getD hs i 0 ≡ 0)
-      (exact : (j : ℕ) → j < slots → inRing o n j ≡ true → takes s j ≡ exceedsCells (query .terms) (take (r .n) hs) (slot w j .cells))
+      (exact : (j : ℕ) → j < slots → inRing o n j ≡ true → flagOf fs j ≡ exceedsCells (query .terms) (take (r .n) hs) (slot w j .cells))
       (sure : secure r hs l ≡ true) where
     abbrev those : List Message
     those = Threshold.candidates (query .terms) (take (r .n) hs) ms
@@ -306,8 +286,8 @@ module _ {w : List ℕ} {q o n : ℕ} {s : Source} {r : Query} {l : Ranked} (ho 
     listed-those : linesOf l ≡ lines (ranking query those)
     listed-those =
         by .right (over-rising over) (is .rising)
-        ∙ listed-is w (select (takes s) (ring o n)) those is
-        (chosen w o n ms over (query .terms) (take (r .n) hs) (takes s) (λ j m. let i = in-ring o n j ho m in exact j (i .0) (i .1)))
+        ∙ listed-is w (select (flagOf fs) (ring o n)) those is
+        (chosen w o n ms over (query .terms) (take (r .n) hs) (flagOf fs) (λ j m. let i = in-ring o n j ho m in exact j (i .0) (i .1)))
         (messages-select (λ m. exceeds (query .terms) (take (r .n) hs) (m .pairs)) ms (over .valid))
 
     safe-those : Safe sum (query .k) (ranking query those)
@@ -326,7 +306,7 @@ module _ {w : List ℕ} {q o n : ℕ} {s : Source} {r : Query} {l : Ranked} (ho 
     safe-all = subst (Safe sum (query .k)) same safe-those
 
     -- the candidates, whose list is secure
-    pub ready-chosen : Ready w q o n ms query s r hs l
+    pub ready-chosen : Ready w q o n ms query fs r hs l
     ready-chosen = record {
       over = over;
       terms = terms;
@@ -346,3 +326,17 @@ module _ {w : List ℕ} {q o n : ℕ} {s : Source} {r : Query} {l : Ranked} (ho 
             (λ h. sum-none (r .n) (r .weights) hs z (λ k m. range .weights-least k (omega (arith, range .n-most))) i h)
             (λ h. unused i h)
             (lt-or-ge i (r .n))
+
+  -- the whole window, from zero thresholds
+  pub ready-all : InRange r → Sixteen l → Flagging w o n r (replicate 8 0) fs → Ready w q o n ms query fs r (replicate 8 0) l
+  ready-all range long flagging =
+      ready-chosen (replicate 8 0) refl range long (λ i h. zero-at 8 i) exact (sym (secure-zero r (replicate 8 0) l (sum-is is (replicate 8 0) ∙ sum-zero (query .terms) (take (r .n) (replicate 8 0)) zero-in)))
+    where
+      zero-in : (i : ℕ) → _≡_ {A = ℕ} (getD (take (r .n) (replicate 8 0)) i 0) 0
+      zero-in i = ⊎-elim (λ a. a .0 ∙ zero-at 8 i) (λ a. a .0) (cut (r .n) (replicate 8 0) i)
+
+      exact : (j : ℕ) → j < slots → inRing o n j ≡ true → flagOf fs j ≡ exceedsCells (query .terms) (take (r .n) (replicate 8 0)) (slot w j .cells)
+      exact j h i =
+          flagging .right (rising-ring w o n ho (over-rising over)) (is .rising) j h
+          ∙ ap (λ (b : Bool). b && exceedsCells (termsOf r) (take (r .n) (replicate 8 0)) (slot w j .cells)) i
+          ∙ ap (λ (qs : List Pair). exceedsCells qs (take (r .n) (replicate 8 0)) (slot w j .cells)) (is .terms)

@@ -18,20 +18,21 @@ use Rattle.paper.specs.Window.{Message}
 use Rattle.paper.specs.Sound.{Messages, Terms}
 use Rattle.paper.specs.Threshold.{reached, Kept, Settled}
 use Rattle.paper.proofs.Tests as Tests
-use Rattle.paper.proofs.SortLaws.{select-append}
+use Rattle.paper.proofs.SortLaws.{select-append, select-none}
 use Rattle.paper.proofs.ThresholdLaws.{skip}
 use Rattle.memory.proofs.KeepsLaws.{keeps-refl}
 use Rattle.window.specs.Layout.{slots, recordAt, recordWords}
 use Rattle.window.specs.Slot.{slot, stored, ring, window}
+use Rattle.window.specs.Terms.{inSet}
 use Rattle.candidates.specs.declared.Query.{Query}
-use Rattle.candidates.specs.declared.Source.{Source}
 use Rattle.candidates.specs.Match.{exceedsCells, reachedSlots, AllRising}
-use Rattle.candidates.specs.Source.{flagOf, taken, inRing}
+use Rattle.candidates.specs.Flags.{flagOf, inRing}
 use Rattle.candidates.specs.Post.{termsOf, Rising, exceedsIn, Exceeding, Reaching}
 use Rattle.candidates.proofs.MatchLaws.{in-ring, ring-in}
+use Rattle.candidates.proofs.TermLaws.{exceeds-missing}
 use Rattle.query.specs.Record.{listedIn, thresholdsIn, flagsIn, thresholds, flags, list, candidates, keptOf, Holds}
-use Rattle.query.specs.Post.{Is, LoadedQuery, LoadedThresholds, Over, arriving, Arriving, Reached, Change, reaches, SettledFrom, Updated}
-use Rattle.query.proofs.ChosenLaws.{select-none, in-append, in-left, in-right, messages-parts, slots-rise, slots-reached, reached-append, unreached-slot}
+use Rattle.query.specs.Post.{Is, LoadedQuery, LoadedThresholds, Over, arriving, Arriving, Reached, Arrived, Change, reaches, SettledFrom, HasTerms, Covers, Shares, Updated}
+use Rattle.query.proofs.ChosenLaws.{in-append, in-left, in-right, messages-parts, slots-rise, slots-reached, reached-append, unreached-slot}
 use Rattle.query.proofs.SettleLaws.{lt-or-ge}
 
 -- ---- the query as it is loaded
@@ -63,7 +64,7 @@ module _ {w : List ℕ} {q o n : ℕ} {ms : List Message} {query : Rank.Query} {
 
 -- ---- the change
 
-in-arriving : (j newest : ℕ) → In j (arriving newest) → (j ≡ newest) × (newest < slots)
+pub in-arriving : (j newest : ℕ) → In j (arriving newest) → (j ≡ newest) × (newest < slots)
 in-arriving j newest m = go (ltb newest slots) refl m
   where
     go : (b : Bool) → ltb newest slots ≡ b → In j (cond b (newest ∷ []) []) → (j ≡ newest) × (newest < slots)
@@ -94,10 +95,10 @@ module _ {w : List ℕ} {o d o′ s newest : ℕ} {ga sa ca : List Message} (cha
     valid = valid-after;
   }
 
-  valid-gone : Messages ga
+  pub valid-gone : Messages ga
   valid-gone = messages-parts ga (sa ++ ca) (change .valid) .0
 
-  valid-come : Messages ca
+  pub valid-come : Messages ca
   valid-come = messages-parts sa ca valid-after .1
 
   -- the tests of the code
@@ -128,10 +129,10 @@ module _ {w : List ℕ} {o d o′ s newest : ℕ} {ga sa ca : List Message} (cha
     flag = flagOf (flags w q)
 
     -- whoever stays has its flag, and the newest its own test
-    exact : {above : Bool} → above ≡ reachedSlots (query .terms) hs (map (slot w) (arriving newest))
-        → (j : ℕ) → j < slots → inRing o′ (s + length ca) j ≡ true → taken (flags w q) newest above false j ≡ exceeding j
-    unfolding taken reachedSlots
-    exact {above} e j h i = go (eqb j newest) refl
+    exact : {above : Bool} {fs : List ℕ} → Arrived w q newest above fs → above ≡ reachedSlots (query .terms) hs (map (slot w) (arriving newest))
+        → (j : ℕ) → j < slots → inRing o′ (s + length ca) j ≡ true → flagOf fs j ≡ exceeding j
+    unfolding reachedSlots
+    exact {above} arrived e j h i = arrived .is j h ∙ go (eqb j newest) refl
       where
         go : (b : Bool) → eqb j newest ≡ b → cond b above (flag j) ≡ exceeding j
         go true p =
@@ -243,6 +244,40 @@ module _ {w : List ℕ} {o d : ℕ} {above : Bool} {r : Query} {hs : List ℕ} w
     right = λ rise terms. f rise terms ∙ ap (λ (t : Bool). t || reachedSlots (termsOf r) (take (r .n) hs) (window w o d)) (sym e);
   }
 
+-- ---- a query that has none of the terms of the messages that go and come
+
+module _ {w : List ℕ} {q o d o′ newest : ℕ} {set : List Bool} (apart : Shares w q set false) where
+  module _ {s : ℕ} {ga sa ca : List Message} {query : Rank.Query} (covers : Covers w o d newest set) (change : Change w o d o′ s newest ga sa ca)
+      (terms : Terms query) (holds : Holds w q o (d + s) (ga ++ sa) query) where
+    -- no slot with such terms exceeds a threshold
+    missing : (hs : List ℕ) (j : ℕ) → HasTerms w set j → exceedsCells (query .terms) hs (slot w j .cells) ≡ false
+    missing hs j has =
+        exceeds-missing (query .terms) hs (slot w j .cells)
+        (λ i h k l e. false≢true (sym (apart .none refl query terms (holds .says) i h) ∙ ap (inSet set) (sym e) ∙ has k l))
+
+    none-of : (hs js : List ℕ) → ((j : ℕ) → In j js → HasTerms w set j) → reachedSlots (query .terms) hs (map (slot w) js) ≡ false
+    unfolding reachedSlots
+    none-of hs [] has = refl
+    none-of hs (j ∷ js) has = rw (missing hs j (has j (inl refl))) (none-of hs js (λ i m. has i (inr m)))
+
+    unreached : reaches w q ga ca query ≡ false
+    unreached =
+        let hs = thresholds w q (length (query .terms)) in
+        reached-append (query .terms) hs ga ca
+        ∙ ap₂ _||_
+        (sym (slots-reached w (ring o d) ga (valid-gone change) (change .gone) (query .terms) hs) ∙ none-of hs (ring o d) (covers .gone))
+        (sym (slots-reached w (arriving newest) ca (valid-come change) (change .come) (query .terms) hs)
+        ∙ none-of hs (arriving newest) (λ j m. let p = in-arriving j newest m in subst (HasTerms w set) (sym (p .0)) (covers .come (p .1))))
+
+  pub unshared : {n : ℕ} → Updated w q o d o′ n newest set false w
+  unshared = record {
+    keeps = keeps-refl (listedIn q) (recordAt q + recordWords) w;
+    untouched = λ z. refl;
+    right = λ s ga sa ca query covers change counted terms holds.
+        let u = unreached covers change terms holds in
+        (sym u, subst (λ (m : ℕ). Holds w q o′ m (sa ++ ca) query) (sym counted) (stays-right change holds u));
+  }
+
 -- ---- the two ends of an update
 
 module _ {w : List ℕ} {q o d o′ newest : ℕ} {r : Query} {hs : List ℕ} {above b : Bool} (query-is : LoadedQuery w q r)
@@ -250,43 +285,42 @@ module _ {w : List ℕ} {q o d o′ newest : ℕ} {r : Query} {hs : List ℕ} {a
   -- what is known of a record that was right before
   module _ {s : ℕ} {ga sa ca : List Message} {query : Rank.Query} (change : Change w o d o′ s newest ga sa ca) (terms : Terms query)
       (holds : Holds w q o (d + s) (ga ++ sa) query) where
-    loaded : Is r query
+    pub loaded : Is r query
     loaded = query-is .is query terms (holds .says)
 
-    the-thresholds : take (r .n) hs ≡ thresholds w q (length (query .terms))
+    pub the-thresholds : take (r .n) hs ≡ thresholds w q (length (query .terms))
     the-thresholds = ap (λ (m : ℕ). take m hs) (loaded .n) ∙ first-ones holds terms thresholds-are
 
-    answered : b ≡ reaches w q ga ca query
+    pub answered : b ≡ reaches w q ga ca query
     answered = answer change loaded arrives reaching ∙ ap (λ (xs : List ℕ). reached (query .terms) xs (ga ++ ca)) the-thresholds
 
-    exact-after : {n : ℕ} → n ≡ s + length ca → (j : ℕ) → j < slots → inRing o′ n j ≡ true
-        → taken (flags w q) newest above false j ≡ exceedsCells (query .terms) (take (r .n) hs) (slot w j .cells)
-    exact-after {n} counted j h i =
-        exact change holds
+    pub exact-after : {n : ℕ} {fs : List ℕ} → Arrived w q newest above fs → n ≡ s + length ca → (j : ℕ) → j < slots → inRing o′ n j ≡ true
+        → flagOf fs j ≡ exceedsCells (query .terms) (take (r .n) hs) (slot w j .cells)
+    exact-after {n} arrived counted j h i =
+        exact change holds arrived
         (above-is change loaded arrives ∙ ap (λ (xs : List ℕ). reachedSlots (query .terms) xs (map (slot w) (arriving newest))) the-thresholds)
         j h (subst (λ (m : ℕ). inRing o′ m j ≡ true) counted i)
         ∙ ap (λ (xs : List ℕ). exceedsCells (query .terms) xs (slot w j .cells)) (sym the-thresholds)
 
-  pub skipped : {n : ℕ} → b ≡ false → Updated w q o d o′ n newest false w
+  pub skipped : {n : ℕ} {set : List Bool} → b ≡ false → Updated w q o d o′ n newest set false w
   skipped e = record {
     keeps = keeps-refl (listedIn q) (recordAt q + recordWords) w;
     untouched = λ z. refl;
-    right = λ s ga sa ca query change counted terms holds.
+    right = λ s ga sa ca query covers change counted terms holds.
         let a = sym e ∙ answered change terms holds in
         (a, subst (λ (m : ℕ). Holds w q o′ m (sa ++ ca) query) (sym counted) (stays-right change holds (sym a)));
   }
 
-  pub settled-again : {n : ℕ} {fs w′ : List ℕ} → b ≡ true → fs ≡ take 9 (drop (flagsIn q) w)
-      → SettledFrom w q o′ n (record { flags = fs; newest = newest; above = above; all = false }) r hs w′ → Updated w q o d o′ n newest true w′
-  unfolding flags
-  settled-again e f settled = record {
+  pub settled-again : {n : ℕ} {fs w′ : List ℕ} {set : List Bool} → b ≡ true → Arrived w q newest above fs → SettledFrom w q o′ n fs r hs w′
+      → Updated w q o d o′ n newest set true w′
+  settled-again e arrived settled = record {
     keeps = settled .keeps;
     untouched = λ z. absurd (true≢false z);
-    right = λ s ga sa ca query change counted terms holds.
+    right = λ s ga sa ca query covers change counted terms holds.
         let is = loaded change terms holds in
         let over = subst (λ (m : ℕ). Over w o′ m (sa ++ ca)) (sym counted) (over-after change) in (
           sym e ∙ answered change terms holds,
           settled .right (sa ++ ca) query over terms (holds .says) is (λ i h. no-others holds terms thresholds-are i (omega (arith, is .n)))
-              (λ j h i. ap (λ (xs : List ℕ). taken xs newest above false j) f ∙ exact-after change terms holds counted j h i),
+              (exact-after change terms holds arrived counted),
         );
   }

@@ -9,7 +9,8 @@ use Rattle.paper.specs.Impact.{top}
 use Rattle.paper.specs.Rank.{lines, ranking}
 use Rattle.paper.specs.Rank as Rank
 use Rattle.paper.specs.Window.{Message}
-use Rattle.paper.specs.Threshold.{thresholdSum, lastScore, reached}
+use Rattle.paper.specs.Order.{In}
+use Rattle.paper.specs.Threshold.{thresholdSum, lastScore, reached, termAt}
 use Rattle.paper.specs.Write.{side-by-side}
 use Rattle.paper.specs.Sound.{Messages, Terms}
 use Rattle.memory.specs.Keeps.{Keeps}
@@ -19,12 +20,12 @@ use Rattle.rank.specs.Listing.{linesOf, lastOf, Tidy}
 use Rattle.rank.specs.Weights.{weightedSum, Raised}
 use Rattle.window.specs.Layout.{slots, recordAt, recordWords}
 use Rattle.window.specs.Slot.{slot, stored, ring, window}
+use Rattle.window.specs.Terms.{inSet, termOf}
 use Rattle.candidates.specs.declared.Query.{Query}
-use Rattle.candidates.specs.declared.Source.{Source}
-use Rattle.candidates.specs.Match.{exceedsCells, reachedSlots, AllRising}
-use Rattle.candidates.specs.Source.{inRing}
-use Rattle.candidates.specs.Post.{termsOf, Rising, takes}
-use Rattle.query.specs.Record.{thresholdsIn, serialsIn, scoresIn, flagsIn, listedIn, thresholds, Says, Holds}
+use Rattle.candidates.specs.Match.{exceedsCells, reachedSlots, lowSlots, AllRising}
+use Rattle.candidates.specs.Flags.{flagOf, inRing}
+use Rattle.candidates.specs.Post.{termsOf, Rising, Without}
+use Rattle.query.specs.Record.{thresholdsIn, serialsIn, scoresIn, flagsIn, listedIn, thresholds, flags, list, Says, Holds}
 
 -- ---- reading
 
@@ -98,8 +99,8 @@ pub record Over (w : List ℕ) (first count : ℕ) (ms : List Message) : Type 0 
   pub valid : Messages ms
 
 -- What is needed of the list and the thresholds that settling ends with: the list is the ranking, the thresholds are safe for it, and whoever
--- exceeds one of them is taken.
-pub record Ready (w : List ℕ) (q first count : ℕ) (ms : List Message) (query : Rank.Query) (s : Source) (r : Query) (hs : List ℕ) (list : Ranked) : Type 0 where
+-- exceeds one of them is flagged.
+pub record Ready (w : List ℕ) (q first count : ℕ) (ms : List Message) (query : Rank.Query) (fs : List ℕ) (r : Query) (hs : List ℕ) (list : Ranked) : Type 0 where
   pub over : Over w first count ms
   pub terms : Terms query
   pub says : Says w q query
@@ -109,11 +110,11 @@ pub record Ready (w : List ℕ) (q first count : ℕ) (ms : List Message) (query
   pub unused : (i : ℕ) → r .n ≤ i → getD hs i 0 ≡ 0
   pub safe : length (ranking query ms) ≡ query .k → thresholdSum (query .terms) (take (r .n) hs) < lastScore (ranking query ms)
   pub short : length (ranking query ms) < query .k → (i : ℕ) → getD hs i 0 ≡ 0
-  pub taken : (j : ℕ) → j < slots → inRing first count j ≡ true → exceedsCells (query .terms) (take (r .n) hs) (slot w j .cells) ≡ true → takes s j ≡ true
+  pub taken : (j : ℕ) → j < slots → inRing first count j ≡ true → exceedsCells (query .terms) (take (r .n) hs) (slot w j .cells) ≡ true → flagOf fs j ≡ true
 
-pub record Finished (w : List ℕ) (q first count : ℕ) (s : Source) (r : Query) (hs : List ℕ) (list : Ranked) (w′ : List ℕ) : Type 0 where
+pub record Finished (w : List ℕ) (q first count : ℕ) (fs : List ℕ) (r : Query) (hs : List ℕ) (list : Ranked) (w′ : List ℕ) : Type 0 where
   pub keeps : Keeps (listedIn q) (recordAt q + recordWords) w w′
-  pub right : (ms : List Message) (query : Rank.Query) → Ready w q first count ms query s r hs list → Holds w′ q first count ms query
+  pub right : (ms : List Message) (query : Rank.Query) → Ready w q first count ms query fs r hs list → Holds w′ q first count ms query
 
 -- settled over the whole window
 pub record Refilled (w : List ℕ) (q first count : ℕ) (r : Query) (w′ : List ℕ) : Type 0 where
@@ -121,11 +122,11 @@ pub record Refilled (w : List ℕ) (q first count : ℕ) (r : Query) (w′ : Lis
   pub right : (ms : List Message) (query : Rank.Query) → Over w first count ms → Terms query → Says w q query → Is r query → Holds w′ q first count ms query
 
 -- settled from the messages that exceed one of the thresholds
-pub record SettledFrom (w : List ℕ) (q first count : ℕ) (s : Source) (r : Query) (hs : List ℕ) (w′ : List ℕ) : Type 0 where
+pub record SettledFrom (w : List ℕ) (q first count : ℕ) (fs : List ℕ) (r : Query) (hs : List ℕ) (w′ : List ℕ) : Type 0 where
   pub keeps : Keeps (listedIn q) (recordAt q + recordWords) w w′
   pub right : (ms : List Message) (query : Rank.Query) → Over w first count ms → Terms query → Says w q query → Is r query
       → ((i : ℕ) → r .n ≤ i → getD hs i 0 ≡ 0)
-      → ((j : ℕ) → j < slots → inRing first count j ≡ true → takes s j ≡ exceedsCells (query .terms) (take (r .n) hs) (slot w j .cells))
+      → ((j : ℕ) → j < slots → inRing first count j ≡ true → flagOf fs j ≡ exceedsCells (query .terms) (take (r .n) hs) (slot w j .cells))
       → Holds w′ q first count ms query
 
 -- ---- a frame
@@ -141,6 +142,25 @@ pub record Arriving (w : List ℕ) (newest : ℕ) (r : Query) (hs : List ℕ) (b
 -- whether that one does, or one of the d messages from slot o on
 pub record Reached (w : List ℕ) (o d : ℕ) (above : Bool) (r : Query) (hs : List ℕ) (b : Bool) : Type 0 where
   pub right : AllRising (window w o d) → Rising r → b ≡ (above || reachedSlots (termsOf r) (take (r .n) hs) (window w o d))
+
+-- the flags, with that of the arriving message
+pub record Arrived (w : List ℕ) (q newest : ℕ) (above : Bool) (r : List ℕ) : Type 0 where
+  pub is : (j : ℕ) → j < slots → flagOf r j ≡ cond (eqb j newest) above (flagOf (flags w q) j)
+
+-- whether an arriving message scores below a bound
+pub record NewestLow (w : List ℕ) (newest : ℕ) (r : Query) (bound : ℕ) (b : Bool) : Type 0 where
+  pub right : AllRising (map (slot w) (arriving newest)) → Rising r → b ≡ lowSlots (termsOf r) bound (map (slot w) (arriving newest))
+
+-- whether the list is full, and neither that one nor one of the d messages from slot o on scores as much as its last
+pub record Stands (w : List ℕ) (q o d newest : ℕ) (r : Query) (b : Bool) : Type 0 where
+  pub right : getD w (listedIn q) 0 ≤ 16 → AllRising (map (slot w) (arriving newest)) → AllRising (window w o d) → Rising r
+      → b ≡ (eqb (length (list w q)) (r .k)
+      && (lowSlots (termsOf r) (lastOf (list w q)) (map (slot w) (arriving newest)) && lowSlots (termsOf r) (lastOf (list w q)) (window w o d)))
+
+-- the flags are stored without those of the d slots from slot o on, and nothing else is written
+pub record KeptList (w : List ℕ) (q o d : ℕ) (fs w′ : List ℕ) : Type 0 where
+  pub keeps : Keeps (flagsIn q) (recordAt q + recordWords) w w′
+  pub flags-are : Without fs o d (flags w′ q)
 
 -- A change of the window: of d + s slots from slot o on, those that hold `ga` go and the s from slot o′ on, which hold `sa`, stay; `ca` come.
 pub record Change (w : List ℕ) (o d o′ s newest : ℕ) (ga sa ca : List Message) : Type 0 where
@@ -159,11 +179,25 @@ pub record Change (w : List ℕ) (o d o′ s newest : ℕ) (ga sa ca : List Mess
 abbrev pub reaches : List ℕ → ℕ → List Message → List Message → Rank.Query → Bool
 reaches w q ga ca query = reached (query .terms) (thresholds w q (length (query .terms))) (ga ++ ca)
 
-pub record Updated (w : List ℕ) (q o d o′ count newest : ℕ) (r : Bool) (w′ : List ℕ) : Type 0 where
+-- the set has the terms of a slot's message
+abbrev pub HasTerms : List ℕ → List Bool → ℕ → Type 0
+HasTerms w set j = (i : ℕ) → i < length (slot w j .cells) → inSet set (termOf (slot w j .cells) i) ≡ true
+
+-- the set has the terms of the messages that go and come
+pub record Covers (w : List ℕ) (o d newest : ℕ) (set : List Bool) : Type 0 where
+  pub gone : (j : ℕ) → In j (ring o d) → HasTerms w set j
+  pub come : newest < slots → HasTerms w set newest
+
+-- whether one of the query's terms is in the set
+pub record Shares (w : List ℕ) (q : ℕ) (set : List Bool) (r : Bool) : Type 0 where
+  pub some : r ≡ true → (query : Rank.Query) → Terms query → Says w q query → (i : ℕ) × (i < length (query .terms)) × (inSet set (termAt (query .terms) i) ≡ true)
+  pub none : r ≡ false → (query : Rank.Query) → Terms query → Says w q query → (i : ℕ) → i < length (query .terms) → inSet set (termAt (query .terms) i) ≡ false
+
+pub record Updated (w : List ℕ) (q o d o′ count newest : ℕ) (set : List Bool) (r : Bool) (w′ : List ℕ) : Type 0 where
   pub keeps : Keeps (listedIn q) (recordAt q + recordWords) w w′
   pub untouched : r ≡ false → w′ ≡ w
-  pub right : (s : ℕ) (ga sa ca : List Message) (query : Rank.Query) → Change w o d o′ s newest ga sa ca → count ≡ s + length ca → Terms query
-      → Holds w q o (d + s) (ga ++ sa) query
+  pub right : (s : ℕ) (ga sa ca : List Message) (query : Rank.Query) → Covers w o d newest set → Change w o d o′ s newest ga sa ca → count ≡ s + length ca
+      → Terms query → Holds w q o (d + s) (ga ++ sa) query
       → (r ≡ reaches w q ga ca query) × Holds w′ q o′ count (sa ++ ca) query
 
 -- a query is written, with nothing kept of it yet

@@ -14,7 +14,7 @@ use Rattle.rank.specs.Listing.{listed, ZeroFrom}
 use Rattle.window.specs.Layout.{slots, recordAt, recordWords}
 use Rattle.window.specs.Slot.{slot, ring}
 use Rattle.candidates.specs.Match.{exceedsCells}
-use Rattle.candidates.specs.Source.{flagOf, inRing}
+use Rattle.candidates.specs.Flags.{flagOf, inRing}
 
 -- ---- its parts: k, the number of terms, the terms with their weights, then what is kept: the list's length, thresholds, serials, scores, flags
 

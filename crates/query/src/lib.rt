@@ -4,15 +4,16 @@ ghost use Prim.Native.Nat.{ℕ, _+_, _*_, _%_, _<_, _≤_};
 ghost use mathlib.Core.Bool.{Bool, not};
 ghost use lib.ListN.{length, getD, take, drop};
 ghost use lib.Dec.{eqb};
+ghost use Rattle.paper.specs.Impact.{top};
 ghost use Rattle.paper.specs.Log.{stateLength, numbers};
 ghost use Rattle.paper.specs.Write.{side-by-side};
 ghost use Rattle.memory.specs.Words.{words};
 ghost use Rattle.window.specs.Layout.{slots, recordAt};
+ghost use Rattle.window.specs.Terms.{termLimit};
 ghost use Rattle.rank.specs.Listing.{linesOf};
 ghost use Rattle.query.specs.Record.{Says};
-ghost use Rattle.query.specs.Post.{Clamped, InRange, LoadedQuery, LoadedThresholds, LoadedList, Lifted, secure, StoredKept, Finished, Refilled, SettledFrom, Arriving, Reached, Updated, PutQuery, Registered, Cleared};
+ghost use Rattle.query.specs.Post.{Clamped, InRange, LoadedQuery, LoadedThresholds, LoadedList, Lifted, secure, StoredKept, Finished, Refilled, SettledFrom, Arriving, Reached, Arrived, NewestLow, Stands, KeptList, Covers, Shares, Updated, PutQuery, Registered, Cleared};
 use candidates::Query;
-use candidates::Source;
 use rank::Ranked;
 
 // Where the records start, and how long each is, in words: k, n, the pairs, the list's length, thresholds, serials, scores, flags.
@@ -125,7 +126,7 @@ fn store(state: &mut [u8], q: usize, thresholds: [u32; 8], list: Ranked, flags: 
 // The thresholds raised where the list is full and they leave room below its last score, else none.
 fn raised(query: Query, thresholds: [u32; 8], list: Ranked) -> [u32; 8]
     requires { ⌜ InRange query ⌝ }
-    requires { ⌜ (list .count ≤ 16) × ((i : ℕ) → getD thresholds i 0 ≤ 1000) ⌝ }
+    requires { ⌜ (list .count ≤ 16) × ((i : ℕ) → getD thresholds i 0 ≤ top) ⌝ }
     ensures { λ r. ⌜ Lifted query thresholds list r ⌝ }
 {
     let n = query.n;
@@ -146,25 +147,25 @@ fn finish(
     q: usize,
     first: usize,
     count: usize,
-    source: Source,
+    flags: [u32; 9],
     query: Query,
     thresholds: [u32; 8],
     list: Ranked,
 )
     requires { ⌜ (length (now state) ≡ stateLength) × (q < numbers) × (first < slots) × (count < slots) ⌝ }
     requires { ⌜ InRange query ⌝ }
-    requires { ⌜ (list .count ≤ 16) × ((i : ℕ) → getD thresholds i 0 ≤ 1000) ⌝ }
-    ensures { λ _. ⌜ Finished (words (now (state .entry))) q first count source query thresholds list (words (now (state .exit))) ⌝ }
+    requires { ⌜ (list .count ≤ 16) × ((i : ℕ) → getD thresholds i 0 ≤ top) ⌝ }
+    ensures { λ _. ⌜ Finished (words (now (state .entry))) q first count flags query thresholds list (words (now (state .exit))) ⌝ }
 {
     let next = raised(query, thresholds, list);
-    let flags = candidates::sifted(state, first, count, source, query, next);
-    store(state, q, next, list, flags);
+    let kept = candidates::sifted(state, first, count, flags, query, next);
+    store(state, q, next, list, kept);
 }
 
 // Whether no message that isn't among those ranked could be listed: a message that exceeds no threshold scores at most their sum.
 fn is_safe(query: Query, thresholds: [u32; 8], list: Ranked) -> bool
     requires { ⌜ InRange query ⌝ }
-    requires { ⌜ (list .count ≤ 16) × ((i : ℕ) → getD thresholds i 0 ≤ 1000) ⌝ }
+    requires { ⌜ (list .count ≤ 16) × ((i : ℕ) → getD thresholds i 0 ≤ top) ⌝ }
     ensures { λ r. ⌜ r ≡ secure query thresholds list ⌝ }
 {
     let weights = query.weights;
@@ -184,14 +185,9 @@ fn refill(state: &mut [u8], q: usize, first: usize, count: usize, query: Query)
     requires { ⌜ InRange query ⌝ }
     ensures { λ _. ⌜ Refilled (words (now (state .entry))) q first count query (words (now (state .exit))) ⌝ }
 {
-    let source = Source {
-        flags: [0u32; 9],
-        newest: window::SLOTS,
-        above: false,
-        all: true,
-    };
-    let list = candidates::ranked(state, first, count, source, query);
-    finish(state, q, first, count, source, query, [0u32; 8], list);
+    let flags = candidates::exceeding(state, first, count, query, [0u32; 8]);
+    let list = candidates::ranked(state, first, count, flags, query);
+    finish(state, q, first, count, flags, query, [0u32; 8], list);
 }
 
 // The query is settled from its candidates, or from the whole window where they aren't enough.
@@ -200,18 +196,18 @@ fn settle(
     q: usize,
     first: usize,
     count: usize,
-    source: Source,
+    flags: [u32; 9],
     query: Query,
     thresholds: [u32; 8],
 )
     requires { ⌜ (length (now state) ≡ stateLength) × (q < numbers) × (first < slots) × (count < slots) ⌝ }
     requires { ⌜ InRange query ⌝ }
-    requires { ⌜ ((i : ℕ) → getD thresholds i 0 ≤ 1000) ⌝ }
-    ensures { λ _. ⌜ SettledFrom (words (now (state .entry))) q first count source query thresholds (words (now (state .exit))) ⌝ }
+    requires { ⌜ ((i : ℕ) → getD thresholds i 0 ≤ top) ⌝ }
+    ensures { λ _. ⌜ SettledFrom (words (now (state .entry))) q first count flags query thresholds (words (now (state .exit))) ⌝ }
 {
-    let list = candidates::ranked(state, first, count, source, query);
+    let list = candidates::ranked(state, first, count, flags, query);
     if is_safe(query, thresholds, list) {
-        finish(state, q, first, count, source, query, thresholds, list);
+        finish(state, q, first, count, flags, query, thresholds, list);
     } else {
         refill(state, q, first, count, query);
     }
@@ -246,7 +242,99 @@ fn is_reached(
     candidates::reaches(state, gone, departed, query, thresholds)
 }
 
+// The candidates' flags, with that of the arriving message where there is one.
+fn arrived_flags(state: &[u8], q: usize, newest: usize, above: bool) -> [u32; 9]
+    requires { ⌜ (length (now state) ≡ stateLength) × (q < numbers) ⌝ }
+    ensures { λ r. ⌜ Arrived (words (now (state .entry))) q newest above r ⌝ }
+{
+    let flags = memory::load9(state, RECORDS + RECORD * q + FLAGS);
+    if newest < window::SLOTS {
+        return candidates::with_flag(flags, newest, above);
+    }
+    flags
+}
+
+// Whether the message in slot `newest`, where that is one, scores below the bound.
+fn newest_below(state: &[u8], newest: usize, query: Query, bound: u32) -> bool
+    requires { ⌜ (length (now state) ≡ stateLength) × InRange query ⌝ }
+    ensures { λ r. ⌜ NewestLow (words (now (state .entry))) newest query bound r ⌝ }
+{
+    if newest < window::SLOTS {
+        return candidates::all_below(state, newest, 1, query, bound);
+    }
+    true
+}
+
+// Whether the list stands as it is: it is full, and no message that goes or comes scores as much as its last.
+fn list_stands(
+    state: &[u8],
+    q: usize,
+    gone: usize,
+    departed: usize,
+    newest: usize,
+    query: Query,
+) -> bool
+    requires { ⌜ (length (now state) ≡ stateLength) × (q < numbers) × (gone < slots) × InRange query ⌝ }
+    ensures { λ r. ⌜ Stands (words (now (state .entry))) q gone departed newest query r ⌝ }
+{
+    let k = query.k;
+    let list = load_list(state, q);
+    if list.count != k {
+        return false;
+    }
+    let last = rank::last_score(list);
+    if !newest_below(state, newest, query, last) {
+        return false;
+    }
+    candidates::all_below(state, gone, departed, query, last)
+}
+
+// The candidates less those that departed; list and thresholds stay.
+fn keep_list(state: &mut [u8], q: usize, gone: usize, departed: usize, flags: [u32; 9])
+    requires { ⌜ (length (now state) ≡ stateLength) × (q < numbers) × (gone < slots) ⌝ }
+    ensures { λ _. ⌜ KeptList (words (now (state .entry))) q gone departed flags (words (now (state .exit))) ⌝ }
+{
+    let rest = candidates::without(flags, gone, departed);
+    memory::store9(state, RECORDS + RECORD * q + FLAGS, rest);
+}
+
+// The terms of the messages that go and come are put into the set.
+pub fn add_moved(state: &[u8], gone: usize, departed: usize, newest: usize, set: &mut [bool])
+    requires { ⌜ (length (now state) ≡ stateLength) × (gone < slots) × (length (now set) ≡ termLimit) ⌝ }
+    ensures { λ _. ⌜ (length (now (set .exit)) ≡ termLimit) × Covers (words (now (state .entry))) gone departed newest (now (set .exit)) ⌝ }
+{
+    let mut j = gone;
+    let mut left = departed;
+    while 0 < left {
+        window::add_terms(state, j, set);
+        j = window::following(j);
+        left -= 1;
+    }
+    if newest < window::SLOTS {
+        window::add_terms(state, newest, set);
+    }
+}
+
+// Whether one of the query's terms is in the set.
+fn shares(state: &[u8], q: usize, set: &[bool]) -> bool
+    requires { ⌜ (length (now state) ≡ stateLength) × (q < numbers) × (length (now set) ≡ termLimit) ⌝ }
+    ensures { λ r. ⌜ Shares (words (now (state .entry))) q (now (set .entry)) r ⌝ }
+{
+    let at = RECORDS + RECORD * q;
+    let n = clamped(memory::get(state, at + 1), 1, 8) as usize;
+    let mut i: usize = 0;
+    while i < n {
+        let term = (memory::get(state, at + PAIRS + i) / 16 % 1024) as usize;
+        if set[term] {
+            return true;
+        }
+        i += 1;
+    }
+    false
+}
+
 // A query is updated where a frame reaches it: `departed` messages from slot `gone` on left, and one arrived in slot `newest` where that is one.
+// `moved` has the terms of all of these: most queries have none of them.
 pub fn update(
     state: &mut [u8],
     q: usize,
@@ -255,25 +343,27 @@ pub fn update(
     first: usize,
     count: usize,
     newest: usize,
+    moved: &[bool],
 ) -> bool
     requires { ⌜ (length (now state) ≡ stateLength) × (q < numbers) × (first < slots) × (count < slots) ⌝ }
-    requires { ⌜ gone < slots ⌝ }
-    ensures { λ r. ⌜ Updated (words (now (state .entry))) q gone departed first count newest r (words (now (state .exit))) ⌝ }
+    requires { ⌜ (gone < slots) × (length (now moved) ≡ termLimit) ⌝ }
+    ensures { λ r. ⌜ Updated (words (now (state .entry))) q gone departed first count newest (now (moved .entry)) r (words (now (state .exit))) ⌝ }
 {
+    if !shares(state, q, moved) {
+        return false;
+    }
     let query = load_query(state, q);
     let thresholds = load_thresholds(state, q);
     let above = newest_exceeds(state, newest, query, thresholds);
     if !is_reached(state, gone, departed, above, query, thresholds) {
         return false;
     }
-    let flags = memory::load9(state, RECORDS + RECORD * q + FLAGS);
-    let source = Source {
-        flags,
-        newest,
-        above,
-        all: false,
-    };
-    settle(state, q, first, count, source, query, thresholds);
+    let flags = arrived_flags(state, q, newest, above);
+    if list_stands(state, q, gone, departed, newest, query) {
+        keep_list(state, q, gone, departed, flags);
+    } else {
+        settle(state, q, first, count, flags, query, thresholds);
+    }
     true
 }
 

@@ -1,4 +1,5 @@
 pub mod RingLaws
 pub mod SlotLaws
+pub mod TermLaws
 pub mod WalkLaws
 pub mod LogLaws

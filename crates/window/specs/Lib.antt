@@ -1,3 +1,4 @@
 pub mod Layout
 pub mod Slot
+pub mod Terms
 pub mod Cursor

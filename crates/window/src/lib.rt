@@ -9,7 +9,8 @@ ghost use Rattle.memory.specs.Words.{words};
 ghost use Rattle.memory.specs.Keeps.{Stored};
 ghost use Rattle.impact.specs.Cell.{cellsOf, Looked};
 ghost use Rattle.window.specs.Layout.{slots};
-ghost use Rattle.window.specs.Slot.{slot, window, next, holdsSerial};
+ghost use Rattle.window.specs.Slot.{slot, sizeAt, window, next, holdsSerial};
+ghost use Rattle.window.specs.Terms.{termLimit, HasAny, Added};
 ghost use Rattle.window.specs.Cursor.{Loaded, Advanced, Roomy, Written};
 use impact::Impact;
 
@@ -39,7 +40,8 @@ pub fn following(j: usize) -> usize
     requires { ⌜ j < slots ⌝ }
     ensures { λ r. ⌜ r ≡ next j ⌝ }
 {
-    (j + 1) % SLOTS
+    let next = j + 1;
+    if next < SLOTS { next } else { 0 }
 }
 
 // The time of the message in slot j.
@@ -58,17 +60,55 @@ pub fn serial_in(state: &[u8], j: usize) -> u32
     memory::get(state, RING + SLOT * j + 1)
 }
 
+// How many cells the message in slot j has, at most sixteen whatever memory holds.
+fn size_in(state: &[u8], j: usize) -> usize
+    requires { ⌜ (length (now state) ≡ stateLength) × (j < slots) ⌝ }
+    ensures { λ r. ⌜ r ≡ sizeAt (words (now (state .entry))) j ⌝ }
+{
+    let size = memory::get(state, RING + SLOT * j + 2) as usize;
+    if size < 16 { size } else { 16 }
+}
+
 // The impacts of the message in slot j in the first n terms of a query.
 pub fn impacts_in(state: &[u8], j: usize, terms: [u32; 8], n: usize) -> [u32; 8]
     requires { ⌜ (length (now state) ≡ stateLength) × (j < slots) × (n ≤ 8) ⌝ }
     ensures { λ r. ⌜ Looked (slot (words (now (state .entry))) j .cells) terms n r ⌝ }
 {
-    let at = RING + SLOT * j;
-    let mut size = memory::get(state, at + 2) as usize;
-    if 16 < size {
-        size = 16;
+    let size = size_in(state, j);
+    impact::impacts(state, RING + SLOT * j + 3, size, terms, n)
+}
+
+// Whether the message in slot j has a term in the set.
+pub fn has_any(state: &[u8], j: usize, set: &[bool]) -> bool
+    requires { ⌜ (length (now state) ≡ stateLength) × (j < slots) × (length (now set) ≡ termLimit) ⌝ }
+    ensures { λ r. ⌜ HasAny (slot (words (now (state .entry))) j .cells) (now (set .entry)) r ⌝ }
+{
+    let at = RING + SLOT * j + 3;
+    let size = size_in(state, j);
+    let mut i: usize = 0;
+    while i < size {
+        let term = (memory::get(state, at + i) / 4194304) as usize;
+        if set[term] {
+            return true;
+        }
+        i += 1;
     }
-    impact::impacts(state, at + 3, size, terms, n)
+    false
+}
+
+// The terms of the message in slot j are put into the set.
+pub fn add_terms(state: &[u8], j: usize, set: &mut [bool])
+    requires { ⌜ (length (now state) ≡ stateLength) × (j < slots) × (length (now set) ≡ termLimit) ⌝ }
+    ensures { λ _. ⌜ (length (now (set .exit)) ≡ termLimit) × Added (slot (words (now (state .entry))) j .cells) (now (set .entry)) (now (set .exit)) ⌝ }
+{
+    let at = RING + SLOT * j + 3;
+    let size = size_in(state, j);
+    let mut i: usize = 0;
+    while i < size {
+        let term = (memory::get(state, at + i) / 4194304) as usize;
+        set[term] = true;
+        i += 1;
+    }
 }
 
 pub struct Cursor {

@@ -1,11 +1,11 @@
 -- Laws of layouts: the fields of a list of bytes spell it, and what is spelled is read back. Assumes nothing.
 use mathlib.Core.Path.{_≡_, refl, sym, ap, ap₂, _∙_}
-use Prim.Native.Nat.{ℕ, zero, suc, _+_, _*_, _^_, _≤_, _<_, suc-le-suc}
-use native.Mathlib.Nat.{add-zero, zero-add, add-assoc, add-comm, zero-mul, le-of-eq, not-suc-le-zero, suc-mul, zero-lt-suc, suc-inj}
+use Prim.Native.Nat.{ℕ, _+_, _*_, _≤_}
+use native.Mathlib.Nat.{add-zero, zero-add, add-assoc, le-of-eq, not-suc-le-zero, suc-inj}
 use native.Mathlib.Omega.{arith}
 use mathlib.Core.Bool.{Bool}
 use mathlib.Core.List.{List, [], _∷_, _++_, append-assoc}
-use lib.ListN.{length, take, drop, getD, length-append, length-drop, replicate, replicate-append-replicate}
+use lib.ListN.{length, take, drop, length-append, length-drop}
 use lib.Seq.{take-at, drop-at, length-take-le, take-all, take-add, drop-drop}
 use Rattle.wire.specs.Bits.{bits, num, unpack, pack, Bytes}
 use Rattle.wire.specs.Field.{field, total, spell, scan, Fit}
@@ -49,54 +49,23 @@ pack-scan s ws h e =
     ap (pack (length s)) (spell-scan s ws 0 (omega arith) ∙ take-all (total ws) (unpack s) (rw (length-unpack s) (omega arith)))
     ∙ pack-unpack s h
 
--- a list of n bytes with these bits is what they pack to
-pub pack-of : (t : List ℕ) (n : ℕ) (bs : List Bool) → Bytes t → length t ≡ n → take (8 * n) (unpack t) ≡ bs → t ≡ pack n bs
-pack-of t n bs h l e =
-    sym (pack-unpack t h) ∙ ap₂ pack l (sym (take-all (8 * n) (unpack t) (rw (length-unpack t) (omega arith))) ∙ e)
-
--- ---- layouts that repeat
+-- ---- layouts put together
 
 pub total-append : (a b : List ℕ) → total (a ++ b) ≡ total a + total b
 unfolding total
 total-append [] b = sym (zero-add (total b))
 total-append (w ∷ a) b = rw (total-append a b, add-assoc w (total a) (total b))
 
-pub total-replicate : (n w : ℕ) → total (replicate n w) ≡ n * w
-unfolding total
-total-replicate zero w = sym (zero-mul w)
-total-replicate (suc n) w = rw (total-replicate n w, suc-mul n w, add-comm w (n * w))
-
-pub length-scan : (s : List ℕ) (at : ℕ) (ws : List ℕ) → length (scan s at ws) ≡ length ws
-unfolding scan
-length-scan s at [] = refl
-length-scan s at (w ∷ ws) = ap suc (length-scan s (at + w) ws)
-
 pub scan-append : (s : List ℕ) (at : ℕ) (a b : List ℕ) → scan s at (a ++ b) ≡ scan s at a ++ scan s (at + total a) b
 unfolding scan total
 scan-append s at [] b = ap (λ (k : ℕ). scan s k b) (sym (add-zero at))
 scan-append s at (w ∷ a) b = rw (scan-append s (at + w) a b, add-assoc at w (total a))
-
--- one more of the same width
-pub scan-more : (s : List ℕ) (at i w : ℕ) → scan s at (replicate (i + 1) w) ≡ scan s at (replicate i w) ++ (field s (at + i * w) w ∷ [])
-unfolding scan
-scan-more s at i w = rw (← replicate-append-replicate i 1 w, scan-append s at (replicate i w) (w ∷ []), total-replicate i w)
 
 pub fit-append : (a b vs us : List ℕ) → Fit a vs → Fit b us → Fit (a ++ b) (vs ++ us)
 fit-append [] b [] us h k = k
 fit-append [] b (v ∷ vs) us h k = absurd h
 fit-append (w ∷ a) b [] us h k = absurd h
 fit-append (w ∷ a) b (v ∷ vs) us h k = (h .0, fit-append a b vs us (h .1) k)
-
-pub fit-replicate : (w : ℕ) (vs : List ℕ) → ((i : ℕ) → i < length vs → getD vs i 0 < 2 ^ w) → Fit (replicate (length vs) w) vs
-fit-replicate w [] h = tt
-fit-replicate w (v ∷ vs) h = (h 0 (zero-lt-suc (length vs)), fit-replicate w vs (λ i k. h (suc i) (suc-le-suc k)))
-
--- two lists put together the same way have the same parts
-pub append-same : (a b c d : List ℕ) → length a ≡ length c → a ++ b ≡ c ++ d → (a ≡ c) × (b ≡ d)
-append-same a b c d l e = (
-  sym (take-at a b (length a) refl) ∙ ap (take (length a)) e ∙ take-at c d (length a) (sym l),
-  sym (drop-at a b (length a) refl) ∙ ap (drop (length a)) e ∙ drop-at c d (length a) (sym l),
-)
 
 -- the values that a scan of two layouts finds, parted where the first layout ends
 pub scan-parts : (s : List ℕ) (at : ℕ) (a b vs us : List ℕ) → Fit a vs → scan s at (a ++ b) ≡ vs ++ us

@@ -8,8 +8,7 @@ ghost use Rattle.wire.specs.Field.{field, placed};
 
 // The `width` bits of s from bit `at`, as a number.
 pub fn take_bits(s: &[u8], at: usize, width: usize) -> u32
-    requires { ⌜ at + width ≤ 8 * length (now s) ⌝ }
-    requires { ⌜ width ≤ 32 ⌝ }
+    requires { ⌜ (at + width ≤ 8 * length (now s)) × (width ≤ 32) ⌝ }
     ensures { λ r. ⌜ r ≡ field (now (s .entry)) at width ⌝ }
 {
     // at / 8 and at % 8 rather than at + width, which may not fit a usize
@@ -27,8 +26,42 @@ pub fn take_bits(s: &[u8], at: usize, width: usize) -> u32
     ((acc >> after) % (1u64 << width)) as u32
 }
 
+// A frame's bytes and the bit of the next field.
+pub struct BitReader<'a> {
+    pub frame: &'a [u8],
+    pub at: usize,
+}
+
+impl<'a> BitReader<'a> {
+    // A reader at the first bit.
+    pub fn new(frame: &'a [u8]) -> BitReader<'a>
+        ensures { λ r. ⌜ (r .frame ≡ frame .entry) × (r .at ≡ 0) ⌝ }
+    {
+        BitReader { frame, at: 0 }
+    }
+
+    // The next field, of `width` bits.
+    pub fn take(self, width: usize) -> u32
+        requires { ⌜ (self .at + width ≤ 8 * length (now (self .frame))) × (width ≤ 32) ⌝ }
+        ensures { λ r. ⌜ r ≡ field (now (self .entry .frame)) (self .entry .at) width ⌝ }
+    {
+        take_bits(self.frame, self.at, width)
+    }
+
+    // The reader after that field.
+    pub fn after(self, width: usize) -> BitReader<'a>
+        requires { ⌜ self .at + width < 2 ^ 64 ⌝ }
+        ensures { λ r. ⌜ (r .frame ≡ self .entry .frame) × (r .at ≡ self .entry .at + width) ⌝ }
+    {
+        BitReader {
+            frame: self.frame,
+            at: self.at + width,
+        }
+    }
+}
+
 // 2 to the k.
-fn pow2(k: usize) -> u32
+pub fn pow2(k: usize) -> u32
     requires { ⌜ k < 32 ⌝ }
     ensures { λ r. ⌜ r ≡ 2 ^ k ⌝ }
 {

@@ -8,18 +8,6 @@ use Rattle.frame.proofs.ReadLaws.{fit-length, checked-misfit, checked-t
 use Rattle.frame.proofs.checked_pairs.Statement.{statement}
 use Rattle.frame.proofs.checked_pairs.Tie as tie
 
-add-misfit : tie.Need-add-misfit
-add-misfit c = omega arith
-
-mul-misfit : tie.Need-mul-misfit
-mul-misfit c = omega arith
-
-add-misfit-2 : tie.Need-add-misfit-2
-add-misfit-2 c = omega arith
-
-misfit-requires : tie.Need-misfit-requires
-misfit-requires c κs = omega arith
-
 returns : tie.Need-returns
 returns c =
     let a = c .before .before .before .args in
@@ -40,10 +28,10 @@ pub checked-pairs-spec : {M : Type 1} → statement M
 checked-pairs-spec =
     tie.close
     (tie.spec
-    add-misfit
-    mul-misfit
-    add-misfit-2
-    misfit-requires
+    (λ c. omega arith)
+    (λ c. omega arith)
+    (λ c. omega arith)
+    (λ c κs. omega arith)
     returns
     take-pairs-requires
     returns-2)

@@ -22,18 +22,9 @@ Inv-loop width most pairs terms amounts limit number₀ floor₀ i₀ number flo
 abbrev μ-loop : tie.MeasureT-loop
 μ-loop width most pairs terms amounts limit number₀ floor₀ i₀ number floor i = pairs - i
 
-enough-pairs-requires : tie.Need-enough-pairs-requires Inv-loop μ-loop
-enough-pairs-requires c κs = tt
-
 returns : tie.Need-returns Inv-loop μ-loop
 unfolding pairsVerdict pairsNumber
 returns c = rw (← c .before .enough-pairs .ensures, not-true (c .before .enough-pairs .result) (c .if1 .taken))
-
-cast-limit : tie.Need-cast-limit Inv-loop μ-loop
-cast-limit c = omega arith
-
-shl-limit : tie.Need-shl-limit Inv-loop μ-loop
-shl-limit c = omega arith
 
 loop-holds : tie.Need-loop-holds Inv-loop μ-loop
 unfolding pairsVerdict
@@ -48,35 +39,14 @@ loop-holds c =
       rw (sub-zero (a .pairs), ← c .before .enough-pairs .ensures, e) (judged-all (fitting (a .width)) ps ∙ ap (λ (t : Bool). pairsNumber t ps) (within-all (a .width) ps)),
     )
 
-mul-term : tie.Need-mul-term Inv-loop μ-loop
-mul-term c = omega arith
-
-shared-slice-read-term : tie.Need-shared-slice-read-term Inv-loop μ-loop
-shared-slice-read-term c = omega arith
-
 cast-term : tie.Need-cast-term Inv-loop μ-loop
 cast-term c = omega (arith, c .shared-slice-known3 .given (c .before .before .loop .i))
-
-shared-slice-read-sound-pair : tie.Need-shared-slice-read-sound-pair Inv-loop μ-loop
-shared-slice-read-sound-pair c = omega arith
 
 cast-sound-pair : tie.Need-cast-sound-pair Inv-loop μ-loop
 cast-sound-pair c = omega (arith, c .shared-slice-known4 .given (c .before .before .before .loop .i))
 
-sound-pair-requires : tie.Need-sound-pair-requires Inv-loop μ-loop
-sound-pair-requires c κs = tt
-
-judge-requires : tie.Need-judge-requires Inv-loop μ-loop
-judge-requires c κs = tt
-
 add-floor : tie.Need-add-floor Inv-loop μ-loop
 add-floor c = omega (arith, c .before .before .before .shared-slice-known3 .given (c .before .before .before .before .before .loop .i))
-
-add-i : tie.Need-add-i Inv-loop μ-loop
-add-i c = omega arith
-
-loop-less : tie.Need-loop-less Inv-loop μ-loop
-loop-less c = omega arith
 
 loop-again : tie.Need-loop-again Inv-loop μ-loop
 loop-again c =
@@ -105,20 +75,20 @@ judge-pairs-spec =
     (tie.spec
     Inv-loop
     μ-loop
-    enough-pairs-requires
+    (λ c κs. tt)
     returns
-    cast-limit
-    shl-limit
+    (λ c. omega arith)
+    (λ c. omega arith)
     loop-holds
-    mul-term
-    shared-slice-read-term
+    (λ c. omega arith)
+    (λ c. omega arith)
     cast-term
-    shared-slice-read-sound-pair
+    (λ c. omega arith)
     cast-sound-pair
-    sound-pair-requires
-    judge-requires
+    (λ c κs. tt)
+    (λ c κs. tt)
     add-floor
-    add-i
-    loop-less
+    (λ c. omega arith)
+    (λ c. omega arith)
     loop-again
     returns-2)

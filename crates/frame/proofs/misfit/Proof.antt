@@ -7,23 +7,11 @@ use Rattle.frame.specs.Read.{fitNumber}
 use Rattle.frame.proofs.misfit.Statement.{statement}
 use Rattle.frame.proofs.misfit.Tie as tie
 
-add-size : tie.Need-add-size
-add-size c = omega arith
-
 returns : tie.Need-returns
 unfolding fitNumber
 returns c =
     let a = c .before .before .args in
     rw (ne-eqb (length (a .bytes .now)) (bytesFor (a .bits)) (λ e. omega arith))
-
-mul-take-bits : tie.Need-mul-take-bits
-mul-take-bits c = omega arith
-
-sub-take-bits : tie.Need-sub-take-bits
-sub-take-bits c = omega arith
-
-take-bits-requires : tie.Need-take-bits-requires
-take-bits-requires c κs = omega arith
 
 returns-2 : tie.Need-returns-2
 unfolding fitNumber
@@ -40,4 +28,4 @@ returns-3 c =
 pub misfit-spec : {M : Type 1} → statement M
 misfit-spec =
     tie.close
-    (tie.spec add-size returns mul-take-bits sub-take-bits take-bits-requires returns-2 returns-3)
+    (tie.spec (λ c. omega arith) returns (λ c. omega arith) (λ c. omega arith) (λ c κs. omega arith) returns-2 returns-3)

@@ -36,12 +36,6 @@ fits c =
     let l = c .before .loop in
     rw (l .inv .1) (turn-fits (a .at) (a .pairs) (l .i) (10 + a .width) (8 * length (a .out .now)) (omega arith) (omega arith), turn-fits (a .at) (a .pairs) (l .i) (10 + a .width) 1024 (omega arith) (omega arith))
 
-mul-put-bits : tie.Need-mul-put-bits Inv-loop μ-loop
-mul-put-bits c = omega arith
-
-shared-slice-read-put-bits : tie.Need-shared-slice-read-put-bits Inv-loop μ-loop
-shared-slice-read-put-bits c = omega arith
-
 cast-put-bits : tie.Need-cast-put-bits Inv-loop μ-loop
 cast-put-bits c = omega (arith, c .shared-slice-known3 .given (c .before .before .before .loop .i))
 
@@ -51,26 +45,14 @@ put-bits-requires c κs = let h = fits (c .before .before) in omega arith
 add-put-bits : tie.Need-add-put-bits Inv-loop μ-loop
 add-put-bits c = let h = fits (c .before .before .before .before .before .before) in omega arith
 
-shared-slice-read-put-bits-2 : tie.Need-shared-slice-read-put-bits-2 Inv-loop μ-loop
-shared-slice-read-put-bits-2 c = omega arith
-
 cast-put-bits-2 : tie.Need-cast-put-bits-2 Inv-loop μ-loop
 cast-put-bits-2 c = omega (arith, c .shared-slice-known4 .given (c .before .before .before .before .before .before .before .before .loop .i))
 
 put-bits-requires-2 : tie.Need-put-bits-requires-2 Inv-loop μ-loop
 put-bits-requires-2 c κs = let h = fits (c .before .before .before .before .before .before .before) in omega arith
 
-add-next : tie.Need-add-next Inv-loop μ-loop
-add-next c = omega arith
-
 add-next-2 : tie.Need-add-next-2 Inv-loop μ-loop
 add-next-2 c = let h = fits (c .before .before .before .before .before .before .before .before .before .before) in omega arith
-
-add-i : tie.Need-add-i Inv-loop μ-loop
-add-i c = omega arith
-
-loop-less : tie.Need-loop-less Inv-loop μ-loop
-loop-less c = omega arith
 
 loop-again : tie.Need-loop-again Inv-loop μ-loop
 loop-again c =
@@ -82,9 +64,6 @@ loop-again c =
       omega arith,
       put-turn (a .out .now) (l .out) (c .before .before .before .before .before .before .before .put-bits .last .0) _ (a .terms .now) (a .amounts .now) (a .at) (a .width) (l .i) (l .next) (omega arith) (omega arith) (omega arith) (l .inv .1) (l .inv .3) (c .before .before .before .before .before .before .before .put-bits .ensures) (c .before .before .put-bits2 .ensures),
     )
-
-same-length : tie.Need-same-length Inv-loop μ-loop
-same-length c = omega arith
 
 returns : tie.Need-returns Inv-loop μ-loop
 returns c =
@@ -100,18 +79,18 @@ put-pairs-spec =
     Inv-loop
     μ-loop
     loop-holds
-    mul-put-bits
-    shared-slice-read-put-bits
+    (λ c. omega arith)
+    (λ c. omega arith)
     cast-put-bits
     put-bits-requires
     add-put-bits
-    shared-slice-read-put-bits-2
+    (λ c. omega arith)
     cast-put-bits-2
     put-bits-requires-2
-    add-next
+    (λ c. omega arith)
     add-next-2
-    add-i
-    loop-less
+    (λ c. omega arith)
+    (λ c. omega arith)
     loop-again
-    same-length
+    (λ c. omega arith)
     returns)

@@ -7,21 +7,15 @@ use Rattle.frame.proofs.LaidLaws.{laid-none, laid-more}
 use Rattle.frame.proofs.put_start.Statement.{statement}
 use Rattle.frame.proofs.put_start.Tie as tie
 
-put-bits-requires : tie.Need-put-bits-requires
-put-bits-requires c κs = omega arith
-
-put-bits-requires-2 : tie.Need-put-bits-requires-2
-put-bits-requires-2 c κs = omega arith
-
-same-length : tie.Need-same-length
-same-length c = omega arith
-
 returns : tie.Need-returns
 unfolding total spell
 returns c =
-    let s = c .before .before .before .before .before .before .before .before .before .args .out .now in
-    laid-more s (c .before .before .before .before .before .before .put-bits .last .0) _ (4 ∷ []) (c .before .before .before .before .before .before .before .before .before .args .kind ∷ []) 32 (c .before .before .before .before .before .before .before .before .before .args .time) refl
-    (laid-more s s (c .before .before .before .before .before .before .put-bits .last .0) [] [] 4 (c .before .before .before .before .before .before .before .before .before .args .kind) refl (laid-none s 0) (c .before .before .before .before .before .before .put-bits .ensures)) (c .before .before .put-bits2 .ensures)
+    let c₁ = c .before .before .before .before .before .before in
+    let a = c₁ .before .before .before .args in
+    let s = a .out .now in
+    let t = c₁ .put-bits .last .0 in
+    laid-more s t _ (4 ∷ []) (a .kind ∷ []) 32 (a .time) refl
+    (laid-more s s t [] [] 4 (a .kind) refl (laid-none s 0) (c₁ .put-bits .ensures)) (c .before .before .put-bits2 .ensures)
 
 pub put-start-spec : {M : Type 1} → statement M
-put-start-spec = tie.close (tie.spec put-bits-requires put-bits-requires-2 same-length returns)
+put-start-spec = tie.close (tie.spec (λ c κs. omega arith) (λ c κs. omega arith) (λ c. omega arith) returns)

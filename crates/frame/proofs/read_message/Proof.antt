@@ -1,5 +1,5 @@
 -- `read_message` meets its contract. Assumes nothing.
-use mathlib.Core.Path.{refl}
+use mathlib.Core.Path.{_≡_, refl}
 use Prim.Native.Nat.{_+_}
 use native.Mathlib.Omega.{arith}
 use Rattle.wire.specs.Field.{field, total}
@@ -11,65 +11,53 @@ use Rattle.frame.proofs.ReadLaws.{read-refused, read-accepted, read-sho
 use Rattle.frame.proofs.read_message.Statement.{statement}
 use Rattle.frame.proofs.read_message.Tie as tie
 
-refusal-requires : tie.Need-refusal-requires
-refusal-requires c κs = tt
-
 returns : tie.Need-returns
 unfolding shapeOfKind total
 returns c =
     let s = c .before .before .before .args .bytes .now in
     read-short s messageHead countWidth (field s 56 4 + 1) (message (field s 4 32) (field s 36 20)) _ (λ e. omega arith) (c .refusal .ensures)
 
-take-bits-requires : tie.Need-take-bits-requires
-take-bits-requires c κs = omega arith
-
-cast-pairs : tie.Need-cast-pairs
-cast-pairs c = omega arith
-
-add-pairs : tie.Need-add-pairs
-add-pairs c = omega arith
-
 checked-pairs-requires : tie.Need-checked-pairs-requires
-checked-pairs-requires c κs = omega (arith, field-lt (c .before .before .before .args .bytes .now) 56 4)
-
-refusal-requires-2 : tie.Need-refusal-requires-2
-refusal-requires-2 c κs = tt
+checked-pairs-requires c κs =
+    let a = c .before .before .before .before .args in
+    omega (arith, field-lt (a .bytes .now) (a .at + 20) 4)
 
 returns-2 : tie.Need-returns-2
 unfolding shapeOfKind total
 returns-2 c =
-    let s = c .before .before .before .before .before .before .before .args .bytes .now in
-    rw (← c .before .before .before .before .take-bits .ensures)
-    (read-refused s messageHead countWidth (c .before .before .before .before .take-bits .result + 1) (message (field s 4 32) (field s 36 20)) (c .before .before .before .checked-pairs .result) (c .before .before .before .checked-pairs .ensures) _ (λ z. omega arith) (c .refusal2 .ensures))
-
-take-bits-requires-2 : tie.Need-take-bits-requires-2
-take-bits-requires-2 c κs = omega arith
-
-take-bits-requires-3 : tie.Need-take-bits-requires-3
-take-bits-requires-3 c κs = omega arith
+    let at-pairs = c .before .before .before in
+    let a = at-pairs .before .before .before .before .before .args in
+    let s = a .bytes .now in
+    let e : a .at ≡ 36 = omega arith in
+    rw (← rw e at (at-pairs .before .take-bits2 .ensures))
+    (read-refused s messageHead countWidth (at-pairs .before .take-bits2 .result + 1) (message (field s 4 32) (field s 36 20)) (at-pairs .checked-pairs .result) (rw e at (at-pairs .checked-pairs .ensures)) _ (λ z. omega arith) (c .refusal2 .ensures))
 
 returns-3 : tie.Need-returns-3
 unfolding shapeOfKind total
 returns-3 c =
-    let at-pairs = c .before .before .before .before .before .before in
-    let m = at-pairs .before .take-bits .result + 1 in
-    let s = at-pairs .before .before .before .before .args .bytes .now in
-    rw (← at-pairs .before .take-bits .ensures)
-    (read-accepted s messageHead countWidth m (message (field s 4 32) (field s 36 20)) (at-pairs .checked-pairs .result) (at-pairs .checked-pairs .ensures) _
-    (omega arith) (rw (length-pairs s 60 countWidth m, ← c .before .before .before .take-bits2 .ensures, ← c .before .before .take-bits3 .ensures)) refl)
+    let at-pairs = c .before .before .before .before in
+    let m = at-pairs .before .take-bits2 .result + 1 in
+    let a = at-pairs .before .before .before .before .before .args in
+    let s = a .bytes .now in
+    let e : a .at ≡ 36 = omega arith in
+    let t : a .time ≡ field s 4 32 = omega arith in
+    rw (← rw e at (at-pairs .before .take-bits2 .ensures))
+    (read-accepted s messageHead countWidth m (message (field s 4 32) (field s 36 20)) (at-pairs .checked-pairs .result) (rw e at (at-pairs .checked-pairs .ensures)) _
+    (omega arith) (rw (length-pairs s 60 countWidth m, ← t, ← rw e at (at-pairs .before .before .take-bits .ensures))) refl)
 
 pub read-message-spec : {M : Type 1} → statement M
 read-message-spec =
     tie.close
     (tie.spec
-    refusal-requires
+    (λ c κs. tt)
     returns
-    take-bits-requires
-    cast-pairs
-    add-pairs
+    (λ c κs. omega arith)
+    (λ c. omega arith)
+    (λ c κs. omega arith)
+    (λ c. omega arith)
+    (λ c. omega arith)
+    (λ c. omega arith)
     checked-pairs-requires
-    refusal-requires-2
+    (λ c κs. tt)
     returns-2
-    take-bits-requires-2
-    take-bits-requires-3
     returns-3)

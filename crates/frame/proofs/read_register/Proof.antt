@@ -1,5 +1,5 @@
 -- `read_register` meets its contract. Assumes nothing.
-use mathlib.Core.Path.{refl}
+use mathlib.Core.Path.{_≡_, refl}
 use Prim.Native.Nat.{_+_}
 use native.Mathlib.Omega.{arith}
 use Rattle.wire.specs.Field.{field, total}
@@ -11,74 +11,61 @@ use Rattle.frame.proofs.ReadLaws.{read-refused, read-accepted, read-sho
 use Rattle.frame.proofs.read_register.Statement.{statement}
 use Rattle.frame.proofs.read_register.Tie as tie
 
-refusal-requires : tie.Need-refusal-requires
-refusal-requires c κs = tt
-
 returns : tie.Need-returns
 unfolding shapeOfKind total
 returns c =
     let s = c .before .before .before .args .bytes .now in
     read-short s registerHead weightWidth (field s 45 3 + 1) (register (field s 4 32) (field s 36 5) (field s 41 4 + 1)) _ (λ e. omega arith) (c .refusal .ensures)
 
-take-bits-requires : tie.Need-take-bits-requires
-take-bits-requires c κs = omega arith
-
-cast-n : tie.Need-cast-n
-cast-n c = omega arith
-
-add-n : tie.Need-add-n
-add-n c = omega arith
+add-k : tie.Need-add-k
+add-k c =
+    let a = c .before .before .before .before .args in
+    omega (arith, field-lt (a .bytes .now) (a .at + 5) 4)
 
 checked-pairs-requires : tie.Need-checked-pairs-requires
-checked-pairs-requires c κs = omega (arith, field-lt (c .before .before .before .args .bytes .now) 45 3)
-
-refusal-requires-2 : tie.Need-refusal-requires-2
-refusal-requires-2 c κs = tt
+checked-pairs-requires c κs =
+    let a = c .before .before .before .before .before .args in
+    omega (arith, field-lt (a .bytes .now) (a .at + 9) 3)
 
 returns-2 : tie.Need-returns-2
 unfolding shapeOfKind total
 returns-2 c =
     let at-pairs = c .before .before .before in
-    let s = at-pairs .before .before .before .before .args .bytes .now in
-    rw (← at-pairs .before .take-bits .ensures)
-    (read-refused s registerHead weightWidth (at-pairs .before .take-bits .result + 1) (register (field s 4 32) (field s 36 5) (field s 41 4 + 1)) (at-pairs .checked-pairs .result) (at-pairs .checked-pairs .ensures) _ (λ z. omega arith) (c .refusal2 .ensures))
-
-take-bits-requires-2 : tie.Need-take-bits-requires-2
-take-bits-requires-2 c κs = omega arith
-
-take-bits-requires-3 : tie.Need-take-bits-requires-3
-take-bits-requires-3 c κs = omega arith
-
-take-bits-requires-4 : tie.Need-take-bits-requires-4
-take-bits-requires-4 c κs = omega arith
-
-add-k : tie.Need-add-k
-add-k c = omega (arith, field-lt (c .before .before .before .before .before .before .before .before .before .args .bytes .now) 41 4)
+    let a = at-pairs .before .before .before .before .before .before .args in
+    let s = a .bytes .now in
+    let e : a .at ≡ 36 = omega arith in
+    rw (← rw e at (at-pairs .before .take-bits3 .ensures))
+    (read-refused s registerHead weightWidth (at-pairs .before .take-bits3 .result + 1) (register (field s 4 32) (field s 36 5) (field s 41 4 + 1)) (at-pairs .checked-pairs .result) (rw e at (at-pairs .checked-pairs .ensures)) _ (λ z. omega arith) (c .refusal2 .ensures))
 
 returns-3 : tie.Need-returns-3
 unfolding shapeOfKind total
 returns-3 c =
-    let at-pairs = c .before .before .before .before .before .before .before in
-    let m = at-pairs .before .take-bits .result + 1 in
-    let s = at-pairs .before .before .before .before .args .bytes .now in
-    rw (← at-pairs .before .take-bits .ensures)
-    (read-accepted s registerHead weightWidth m (register (field s 4 32) (field s 36 5) (field s 41 4 + 1)) (at-pairs .checked-pairs .result) (at-pairs .checked-pairs .ensures) _
-    (omega arith) (rw (length-pairs s 48 weightWidth m, ← c .before .before .before .before .take-bits2 .ensures, ← c .before .before .before .take-bits3 .ensures, ← c .before .before .take-bits4 .ensures)) refl)
+    let at-pairs = c .before .before .before .before in
+    let m = at-pairs .before .take-bits3 .result + 1 in
+    let a = at-pairs .before .before .before .before .before .before .args in
+    let s = a .bytes .now in
+    let e : a .at ≡ 36 = omega arith in
+    let t : a .time ≡ field s 4 32 = omega arith in
+    rw (← rw e at (at-pairs .before .take-bits3 .ensures))
+    (read-accepted s registerHead weightWidth m (register (field s 4 32) (field s 36 5) (field s 41 4 + 1)) (at-pairs .checked-pairs .result) (rw e at (at-pairs .checked-pairs .ensures)) _
+    (omega arith) (rw (length-pairs s 48 weightWidth m, ← t, ← rw e at (at-pairs .before .before .before .take-bits .ensures), ← rw e at (at-pairs .before .before .take-bits2 .ensures))) refl)
 
 pub read-register-spec : {M : Type 1} → statement M
 read-register-spec =
     tie.close
     (tie.spec
-    refusal-requires
+    (λ c κs. tt)
     returns
-    take-bits-requires
-    cast-n
-    add-n
-    checked-pairs-requires
-    refusal-requires-2
-    returns-2
-    take-bits-requires-2
-    take-bits-requires-3
-    take-bits-requires-4
+    (λ c κs. omega arith)
+    (λ c. omega arith)
+    (λ c κs. omega arith)
     add-k
+    (λ c. omega arith)
+    (λ c κs. omega arith)
+    (λ c. omega arith)
+    (λ c. omega arith)
+    (λ c. omega arith)
+    checked-pairs-requires
+    (λ c κs. tt)
+    returns-2
     returns-3)

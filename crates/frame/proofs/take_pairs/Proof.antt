@@ -47,35 +47,11 @@ add-take-bits c = let h = fits (c .before) in omega arith
 take-bits-requires-2 : tie.Need-take-bits-requires-2 Inv-loop μ-loop
 take-bits-requires-2 c κs = let h = fits (c .before) in omega arith
 
-mul-terms : tie.Need-mul-terms Inv-loop μ-loop
-mul-terms c = omega arith
-
-array-write-terms : tie.Need-array-write-terms Inv-loop μ-loop
-array-write-terms c = omega arith
-
-mul-amounts : tie.Need-mul-amounts Inv-loop μ-loop
-mul-amounts c = omega arith
-
-array-write-amounts : tie.Need-array-write-amounts Inv-loop μ-loop
-array-write-amounts c = omega arith
-
-judge-requires : tie.Need-judge-requires Inv-loop μ-loop
-judge-requires c κs = tt
-
 add-least : tie.Need-add-least Inv-loop μ-loop
 add-least c = omega (arith, c .before .before .take-bits .ensures, field-lt (c .before .before .before .before .before .before .args .bytes .now) (c .before .before .before .before .loop .next) 10)
 
-add-next : tie.Need-add-next Inv-loop μ-loop
-add-next c = omega arith
-
 add-next-2 : tie.Need-add-next-2 Inv-loop μ-loop
 add-next-2 c = let h = fits (c .before .before .before) in omega arith
-
-add-i : tie.Need-add-i Inv-loop μ-loop
-add-i c = omega arith
-
-loop-less : tie.Need-loop-less Inv-loop μ-loop
-loop-less c = omega arith
 
 loop-again : tie.Need-loop-again Inv-loop μ-loop
 loop-again c =
@@ -114,15 +90,15 @@ take-pairs-spec =
     take-bits-requires
     add-take-bits
     take-bits-requires-2
-    mul-terms
-    array-write-terms
-    mul-amounts
-    array-write-amounts
-    judge-requires
+    (λ c. omega arith)
+    (λ c. omega arith)
+    (λ c. omega arith)
+    (λ c. omega arith)
+    (λ c κs. tt)
     add-least
-    add-next
+    (λ c. omega arith)
     add-next-2
-    add-i
-    loop-less
+    (λ c. omega arith)
+    (λ c. omega arith)
     loop-again
     returns)

@@ -6,44 +6,17 @@ use Rattle.frame.proofs.WriteLaws.{refused-post}
 use Rattle.frame.proofs.write.Statement.{statement}
 use Rattle.frame.proofs.write.Tie as tie
 
-write-message-requires : tie.Need-write-message-requires
-write-message-requires c κs = tt
-
-write-tick-requires : tie.Need-write-tick-requires
-write-tick-requires c κs = tt
-
-write-register-requires : tie.Need-write-register-requires
-write-register-requires c κs = tt
-
-write-unregister-requires : tie.Need-write-unregister-requires
-write-unregister-requires c κs = tt
-
-unwritten-requires : tie.Need-unwritten-requires
-unwritten-requires c κs = tt
-
-same-length : tie.Need-same-length
-same-length c = omega arith
-
 returns : tie.Need-returns
 unfolding fromFields
 returns c = rw (c .before .before .before .before .match .keys1) (c .before .before .write-message .ensures)
-
-same-length-2 : tie.Need-same-length-2
-same-length-2 c = omega arith
 
 returns-2 : tie.Need-returns-2
 unfolding fromFields
 returns-2 c = rw (c .before .before .before .before .match .keys2) (c .before .before .write-tick .ensures)
 
-same-length-3 : tie.Need-same-length-3
-same-length-3 c = omega arith
-
 returns-3 : tie.Need-returns-3
 unfolding fromFields
 returns-3 c = rw (c .before .before .before .before .match .keys3) (c .before .before .write-register .ensures)
-
-same-length-4 : tie.Need-same-length-4
-same-length-4 c = omega arith
 
 returns-4 : tie.Need-returns-4
 unfolding fromFields
@@ -60,17 +33,17 @@ pub write-spec : {M : Type 1} → statement M
 write-spec =
     tie.close
     (tie.spec
-    write-message-requires
-    write-tick-requires
-    write-register-requires
-    write-unregister-requires
-    unwritten-requires
-    same-length
+    (λ c κs. tt)
+    (λ c κs. tt)
+    (λ c κs. tt)
+    (λ c κs. tt)
+    (λ c κs. tt)
+    (λ c. omega arith)
     returns
-    same-length-2
+    (λ c. omega arith)
     returns-2
-    same-length-3
+    (λ c. omega arith)
     returns-3
-    same-length-4
+    (λ c. omega arith)
     returns-4
     returns-5)

@@ -44,21 +44,12 @@ size c =
     let a = c .before .before .before .before .before .before .args in
     length-written messageHead (1 ∷ a .time ∷ a .serial ∷ _ ∷ []) (a .terms .now) (a .amounts .now) countWidth (a .pairs) refl (enough c .2) (enough c .3)
 
-unwritten-requires : tie.Need-unwritten-requires
-unwritten-requires c κs = tt
-
 returns : tie.Need-returns
 unfolding fromFields
 returns c =
     let a = c .before .before .before .before .before .args in
     range-refused (range (a .time) (a .serial)) countWidth mostPairs (a .pairs) (a .terms .now) (a .amounts .now) (framed (c .before .before .before .before .before)) (a .out .now) (c .unwritten .result)
     (rw (lt-ltb (a .time) (2 ^ 32) (omega arith), le-ltb (a .serial) (2 ^ 20) (omega arith))) (omega arith) (omega arith)
-
-judge-pairs-requires : tie.Need-judge-pairs-requires
-judge-pairs-requires c κs = omega arith
-
-unwritten-requires-2 : tie.Need-unwritten-requires-2
-unwritten-requires-2 c κs = tt
 
 returns-2 : tie.Need-returns-2
 unfolding fromFields
@@ -68,18 +59,6 @@ returns-2 c =
     pairs-refused (range (a .time) (a .serial)) countWidth mostPairs (a .pairs) (a .terms .now) (a .amounts .now) (framed z) (a .out .now) (c .unwritten2 .result) (in-range (c .before .before .before))
     (omega arith) (λ k. omega arith) (omega arith)
 
-mul-if3 : tie.Need-mul-if3
-mul-if3 c = let h = enough c in omega arith
-
-add-if3 : tie.Need-add-if3
-add-if3 c = let h = enough c in omega arith
-
-add-if3-2 : tie.Need-add-if3-2
-add-if3-2 c = let h = enough c in omega arith
-
-unwritten-requires-3 : tie.Need-unwritten-requires-3
-unwritten-requires-3 c κs = tt
-
 returns-3 : tie.Need-returns-3
 unfolding fromFields
 returns-3 c =
@@ -87,12 +66,6 @@ returns-3 c =
     let a = z .args in
     pairs-short (range (a .time) (a .serial)) countWidth mostPairs (a .pairs) (a .terms .now) (a .amounts .now) (framed z) (a .out .now) (c .unwritten3 .result) (in-range (c .before .before .before .before)) (judged (c .before .before))
     (omega (arith, size (c .before .before))) (omega arith) (omega arith)
-
-put-message-requires : tie.Need-put-message-requires
-put-message-requires c κs = let h = enough (c .before .before) in omega arith
-
-same-length : tie.Need-same-length
-same-length c = omega arith
 
 returns-4 : tie.Need-returns-4
 unfolding fromFields
@@ -106,16 +79,16 @@ pub write-message-spec : {M : Type 1} → statement M
 write-message-spec =
     tie.close
     (tie.spec
-    unwritten-requires
+    (λ c κs. tt)
     returns
-    judge-pairs-requires
-    unwritten-requires-2
+    (λ c κs. omega arith)
+    (λ c κs. tt)
     returns-2
-    mul-if3
-    add-if3
-    add-if3-2
-    unwritten-requires-3
+    (λ c. let h = enough c in omega arith)
+    (λ c. let h = enough c in omega arith)
+    (λ c. let h = enough c in omega arith)
+    (λ c κs. tt)
     returns-3
-    put-message-requires
-    same-length
+    (λ c κs. let h = enough (c .before .before) in omega arith)
+    (λ c. omega arith)
     returns-4)

@@ -46,12 +46,6 @@ size c =
     let a = c .before .before .before .before .before .before .before .args in
     length-written registerHead (3 ∷ a .time ∷ a .number ∷ _ ∷ _ ∷ []) (a .terms .now) (a .amounts .now) weightWidth (a .pairs) refl (enough c .2) (enough c .3)
 
-sound-query-requires : tie.Need-sound-query-requires
-sound-query-requires c κs = tt
-
-unwritten-requires : tie.Need-unwritten-requires
-unwritten-requires c κs = tt
-
 returns : tie.Need-returns
 unfolding fromFields
 returns c =
@@ -60,12 +54,6 @@ returns c =
     range-refused (range (a .time) (a .number) (a .k)) weightWidth mostTerms (a .pairs) (a .terms .now) (a .amounts .now) (framed z) (a .out .now) (c .unwritten .result)
     (rw (lt-ltb (a .time) (2 ^ 32) (omega arith)) (sym (c .before .before .sound-query .ensures) ∙ not-true _ (c .before .if1 .taken))) (omega arith) (omega arith)
 
-judge-pairs-requires : tie.Need-judge-pairs-requires
-judge-pairs-requires c κs = omega arith
-
-unwritten-requires-2 : tie.Need-unwritten-requires-2
-unwritten-requires-2 c κs = tt
-
 returns-2 : tie.Need-returns-2
 unfolding fromFields
 returns-2 c =
@@ -73,18 +61,6 @@ returns-2 c =
     let a = z .args in
     pairs-refused (range (a .time) (a .number) (a .k)) weightWidth mostTerms (a .pairs) (a .terms .now) (a .amounts .now) (framed z) (a .out .now) (c .unwritten2 .result) (in-range (c .before .before .before))
     (omega arith) (λ k. omega arith) (omega arith)
-
-mul-if3 : tie.Need-mul-if3
-mul-if3 c = let h = enough c in omega arith
-
-add-if3 : tie.Need-add-if3
-add-if3 c = let h = enough c in omega arith
-
-add-if3-2 : tie.Need-add-if3-2
-add-if3-2 c = let h = enough c in omega arith
-
-unwritten-requires-3 : tie.Need-unwritten-requires-3
-unwritten-requires-3 c κs = tt
 
 returns-3 : tie.Need-returns-3
 unfolding fromFields
@@ -101,9 +77,6 @@ put-register-requires c κs =
     let k = ltb-true 0 (a .k) (and-true (ltb 0 (a .k)) (leb (a .k) (2 ^ 4)) (and-true (ltb (a .number) (2 ^ 5)) (within (2 ^ 4) (a .k)) (sound (c .before .before .before .before)) .1) .0) in
     omega arith
 
-same-length : tie.Need-same-length
-same-length c = omega arith
-
 returns-4 : tie.Need-returns-4
 unfolding fromFields
 returns-4 c =
@@ -116,17 +89,17 @@ pub write-register-spec : {M : Type 1} → statement M
 write-register-spec =
     tie.close
     (tie.spec
-    sound-query-requires
-    unwritten-requires
+    (λ c κs. tt)
+    (λ c κs. tt)
     returns
-    judge-pairs-requires
-    unwritten-requires-2
+    (λ c κs. omega arith)
+    (λ c κs. tt)
     returns-2
-    mul-if3
-    add-if3
-    add-if3-2
-    unwritten-requires-3
+    (λ c. let h = enough c in omega arith)
+    (λ c. let h = enough c in omega arith)
+    (λ c. let h = enough c in omega arith)
+    (λ c κs. tt)
     returns-3
     put-register-requires
-    same-length
+    (λ c. omega arith)
     returns-4)

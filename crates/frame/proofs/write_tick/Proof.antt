@@ -25,23 +25,11 @@ in-range : (time : ℕ) → time < 2 ^ 32 → pairsNumber (ltb time (2 ^ 32)) []
 unfolding pairsNumber rises
 in-range time h = rw (lt-ltb time (2 ^ 32) h)
 
-unwritten-requires : tie.Need-unwritten-requires
-unwritten-requires c κs = tt
-
 returns : tie.Need-returns
 unfolding fromFields
 returns c =
     let a = c .before .before .before .args in
     write-short (ltb (a .time) (2 ^ 32)) [] (tick (a .time)) (a .out .now) (c .unwritten .result) (in-range (a .time) (omega arith)) (omega (arith, size (a .time))) (omega arith) (omega arith)
-
-put-start-requires : tie.Need-put-start-requires
-put-start-requires c κs = omega arith
-
-put-fill-requires : tie.Need-put-fill-requires
-put-fill-requires c κs = omega arith
-
-same-length : tie.Need-same-length
-same-length c = omega arith
 
 returns-2 : tie.Need-returns-2
 unfolding fromFields total encode side-by-side pairBits spell pairWidths
@@ -60,9 +48,9 @@ pub write-tick-spec : {M : Type 1} → statement M
 write-tick-spec =
     tie.close
     (tie.spec
-    unwritten-requires
+    (λ c κs. tt)
     returns
-    put-start-requires
-    put-fill-requires
-    same-length
+    (λ c κs. omega arith)
+    (λ c κs. omega arith)
+    (λ c. omega arith)
     returns-2)

@@ -26,9 +26,6 @@ in-range : (time number : ℕ) → time < 2 ^ 32 → number < 2 ^ 5 → pairsNum
 unfolding pairsNumber rises
 in-range time number h k = rw (lt-ltb time (2 ^ 32) h, lt-ltb number (2 ^ 5) k)
 
-unwritten-requires : tie.Need-unwritten-requires
-unwritten-requires c κs = tt
-
 returns : tie.Need-returns
 unfolding fromFields pairsNumber
 returns c =
@@ -36,27 +33,12 @@ returns c =
     write-refused (ltb (a .time) (2 ^ 32) && ltb (a .number) (2 ^ 5)) [] (unregister (a .time) (a .number)) (a .out .now) (c .unwritten .result)
     (rw (lt-ltb (a .time) (2 ^ 32) (omega arith), le-ltb (a .number) (2 ^ 5) (omega arith)) (omega arith)) (λ k. omega arith) (omega arith)
 
-unwritten-requires-2 : tie.Need-unwritten-requires-2
-unwritten-requires-2 c κs = tt
-
 returns-2 : tie.Need-returns-2
 unfolding fromFields
 returns-2 c =
     let a = c .before .before .before .before .args in
     write-short (ltb (a .time) (2 ^ 32) && ltb (a .number) (2 ^ 5)) [] (unregister (a .time) (a .number)) (a .out .now) (c .unwritten2 .result) (in-range (a .time) (a .number) (omega arith) (omega arith))
     (omega (arith, size (a .time) (a .number))) (omega arith) (omega arith)
-
-put-start-requires : tie.Need-put-start-requires
-put-start-requires c κs = omega arith
-
-put-bits-requires : tie.Need-put-bits-requires
-put-bits-requires c κs = omega arith
-
-put-fill-requires : tie.Need-put-fill-requires
-put-fill-requires c κs = omega arith
-
-same-length : tie.Need-same-length
-same-length c = omega arith
 
 returns-3 : tie.Need-returns-3
 unfolding fromFields total encode side-by-side pairBits spell pairWidths
@@ -78,12 +60,12 @@ pub write-unregister-spec : {M : Type 1} → statement M
 write-unregister-spec =
     tie.close
     (tie.spec
-    unwritten-requires
+    (λ c κs. tt)
     returns
-    unwritten-requires-2
+    (λ c κs. tt)
     returns-2
-    put-start-requires
-    put-bits-requires
-    put-fill-requires
-    same-length
+    (λ c κs. omega arith)
+    (λ c κs. omega arith)
+    (λ c κs. omega arith)
+    (λ c. omega arith)
     returns-3)

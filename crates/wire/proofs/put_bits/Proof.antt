@@ -20,42 +20,9 @@ abbrev μ-loop : tie.MeasureT-loop
 loop-holds : tie.Need-loop-holds Inv-loop μ-loop
 loop-holds c = (omega arith, omega arith, omega arith, omega arith, chunks-start _ _ _ _)
 
-sub-lesser : tie.Need-sub-lesser Inv-loop μ-loop
-sub-lesser c = omega arith
-
-lesser-requires : tie.Need-lesser-requires Inv-loop μ-loop
-lesser-requires c κs = omega arith
-
-sub-cut : tie.Need-sub-cut Inv-loop μ-loop
-sub-cut c = omega arith
-
-cut-requires : tie.Need-cut-requires Inv-loop μ-loop
-cut-requires c κs = omega arith
-
-slice-read-with-bits : tie.Need-slice-read-with-bits Inv-loop μ-loop
-slice-read-with-bits c = omega arith
-
 with-bits-requires : tie.Need-with-bits-requires Inv-loop μ-loop
 with-bits-requires c κs =
     (omega arith, rw (c .before .cut .ensures) (mod-lt _ (pow-pos (c .before .before .lesser .result))))
-
-slice-write-s : tie.Need-slice-write-s Inv-loop μ-loop
-slice-write-s c = omega arith
-
-sub-left : tie.Need-sub-left Inv-loop μ-loop
-sub-left c = omega arith
-
-add-q : tie.Need-add-q Inv-loop μ-loop
-add-q c = omega arith
-
-add-q-2 : tie.Need-add-q-2 Inv-loop μ-loop
-add-q-2 c = omega arith
-
-add-k : tie.Need-add-k Inv-loop μ-loop
-add-k c = omega arith
-
-loop-less : tie.Need-loop-less Inv-loop μ-loop
-loop-less c = omega arith
 
 loop-again : tie.Need-loop-again Inv-loop μ-loop
 loop-again c =
@@ -67,9 +34,6 @@ loop-again c =
       chunks-turn _ _ _ _ _ _ (l .q) (l .k) (c .before .before .before .lesser .result) _ _ (l .inv .4) (c .with-bits .ensures) (c .before .before .cut .ensures) (l .inv .3) (omega arith) (omega arith) (omega arith) (omega arith) (omega arith) (omega arith),
     )
 
-same-length : tie.Need-same-length Inv-loop μ-loop
-same-length c = omega arith
-
 returns : tie.Need-returns Inv-loop μ-loop
 returns c = c .before .loop .inv .4 ∙ chunks-done _ _ _ _ _ (omega arith)
 
@@ -80,18 +44,18 @@ put-bits-spec =
     Inv-loop
     μ-loop
     loop-holds
-    sub-lesser
-    lesser-requires
-    sub-cut
-    cut-requires
-    slice-read-with-bits
+    (λ c. omega arith)
+    (λ c κs. omega arith)
+    (λ c. omega arith)
+    (λ c κs. omega arith)
+    (λ c. omega arith)
     with-bits-requires
-    slice-write-s
-    sub-left
-    add-q
-    add-q-2
-    add-k
-    loop-less
+    (λ c. omega arith)
+    (λ c. omega arith)
+    (λ c. omega arith)
+    (λ c. omega arith)
+    (λ c. omega arith)
+    (λ c. omega arith)
     loop-again
-    same-length
+    (λ c. omega arith)
     returns)

@@ -18,15 +18,6 @@ Inv-loop s at width first used bytes end acc₀ i₀ acc i = (first ≤ i) × (i
 abbrev μ-loop : tie.MeasureT-loop
 μ-loop s at width first used bytes end acc₀ i₀ acc i = end - i
 
-add-used : tie.Need-add-used Inv-loop μ-loop
-add-used c = omega arith
-
-add-bytes : tie.Need-add-bytes Inv-loop μ-loop
-add-bytes c = omega arith
-
-add-end : tie.Need-add-end Inv-loop μ-loop
-add-end c = omega arith
-
 loop-holds : tie.Need-loop-holds Inv-loop μ-loop
 unfolding field num
 loop-holds c = (omega arith, omega arith, rw sub-self)
@@ -38,37 +29,16 @@ gathered-lt c = rw (c .before .loop .inv .2) (field-fits _ _ _ 40 (omega arith))
 mul-acc : tie.Need-mul-acc Inv-loop μ-loop
 mul-acc c = omega (arith, gathered-lt c)
 
-shared-slice-read-acc : tie.Need-shared-slice-read-acc Inv-loop μ-loop
-shared-slice-read-acc c = omega arith
-
 cast-acc : tie.Need-cast-acc Inv-loop μ-loop
 cast-acc c = omega (arith, c .shared-slice-known .given (c .before .before .loop .i))
 
 add-acc : tie.Need-add-acc Inv-loop μ-loop
 add-acc c = omega (arith, c .shared-slice-known .given (c .before .before .loop .i), gathered-lt (c .before))
 
-add-i : tie.Need-add-i Inv-loop μ-loop
-add-i c = omega arith
-
-loop-less : tie.Need-loop-less Inv-loop μ-loop
-loop-less c = omega arith
-
 loop-again : tie.Need-loop-again Inv-loop μ-loop
 loop-again c =
     let l = c .before .before .loop in
     (omega arith, omega arith, gather-turn _ _ _ _ (l .inv .2) (l .inv .0) (omega arith) (omega (arith, c .shared-slice-known .given (l .i))))
-
-mul-after : tie.Need-mul-after Inv-loop μ-loop
-mul-after c = omega arith
-
-sub-after : tie.Need-sub-after Inv-loop μ-loop
-sub-after c = omega arith
-
-shr-result : tie.Need-shr-result Inv-loop μ-loop
-shr-result c = omega arith
-
-shl-result : tie.Need-shl-result Inv-loop μ-loop
-shl-result c = omega arith
 
 returns : tie.Need-returns Inv-loop μ-loop
 returns c = gather-done _ _ (c .before .before .args .width) _ _ _ _ (c .before .loop .inv .2) (omega arith) (omega arith) (omega arith) (omega arith)
@@ -87,21 +57,21 @@ take-bits-spec =
     (tie.spec
     Inv-loop
     μ-loop
-    add-used
-    add-bytes
-    add-end
+    (λ c. omega arith)
+    (λ c. omega arith)
+    (λ c. omega arith)
     loop-holds
     mul-acc
-    shared-slice-read-acc
+    (λ c. omega arith)
     cast-acc
     add-acc
-    add-i
-    loop-less
+    (λ c. omega arith)
+    (λ c. omega arith)
     loop-again
-    mul-after
-    sub-after
-    shr-result
-    shl-result
+    (λ c. omega arith)
+    (λ c. omega arith)
+    (λ c. omega arith)
+    (λ c. omega arith)
     rem-result
     cast-result
     returns)

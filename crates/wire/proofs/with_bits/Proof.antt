@@ -9,21 +9,6 @@ use Rattle.wire.proofs.Chunk.{patched, byte-patch}
 use Rattle.wire.proofs.with_bits.Statement.{statement}
 use Rattle.wire.proofs.with_bits.Tie as tie
 
-sub-pow2 : tie.Need-sub-pow2
-sub-pow2 c = omega arith
-
-pow2-requires : tie.Need-pow2-requires
-pow2-requires c κs = omega arith
-
-sub-pow2-2 : tie.Need-sub-pow2-2
-sub-pow2-2 c = omega arith
-
-sub-pow2-3 : tie.Need-sub-pow2-3
-sub-pow2-3 c = omega arith
-
-pow2-requires-2 : tie.Need-pow2-requires-2
-pow2-requires-2 c κs = omega arith
-
 -- what the code makes, with what each need after it asks
 patch : (c : tie.After-pow22)
     → let a = c .before .before .args in
@@ -61,11 +46,11 @@ pub with-bits-spec : {M : Type 1} → statement M
 with-bits-spec =
     tie.close
     (tie.spec
-    sub-pow2
-    pow2-requires
-    sub-pow2-2
-    sub-pow2-3
-    pow2-requires-2
+    (λ c. omega arith)
+    (λ c κs. omega arith)
+    (λ c. omega arith)
+    (λ c. omega arith)
+    (λ c κs. omega arith)
     div-result
     mul-result
     mul-result-2
