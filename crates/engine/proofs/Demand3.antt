@@ -1,20 +1,14 @@
 -- DEMAND 3, proved: one theorem over whole lists of frames. Its statement is in specs/Demand3.antt. Assumes nothing.
 use Prim.Native.Nat.{ℕ}
-use native.Mathlib.Omega.{arith}
 use mathlib.Core.Path.{_≡_, refl, sym, ap, ap₂, _∙_, subst}
-use mathlib.Core.Bool.{Bool, true, false, cond}
-use mathlib.Core.List.{List, [], _∷_, _++_}
+use mathlib.Core.List.{List, [], _∷_}
 use lib.ListN.{length}
-use lib.Dec.{eqb}
-use borrow.Author.Tests.{eqb-true}
-use Rattle.paper.specs.Frame.{Frame, Shape, shape}
-use Rattle.paper.specs.Frame.Shape.{refused, accepted}
-use Rattle.paper.specs.Log.{Log, Call, stateLength, numbers, fresh, judgeShape, judgeFrame, lent, judge, acceptShape, after, replay}
-use Rattle.paper.specs.Demand3.{Answered, markedShape, markedBy}
+use Rattle.paper.specs.Log.{Log, Call, stateLength, fresh, after, replay}
+use Rattle.paper.specs.Demand3.{Answered}
+use Rattle.paper.proofs.MarkLaws.{answered-by-log}
 use Rattle.memory.specs.Words.{words}
-use Rattle.engine.specs.declared.Reply.{Reply}
 use Rattle.engine.specs.Represents.{Represents, keeping}
-use Rattle.engine.specs.Post.{callOf, replyOf, StartPost, FrameRight, FramePost}
+use Rattle.engine.specs.Post.{callOf, replyOf, StartPost, FrameRight}
 use Rattle.engine.specs.Demand3.{Frames, callsOf, logOf, Demand3}
 use Rattle.engine.specs.Demand3.Frames.{none-left, handed}
 use Rattle.engine.proofs.RepresentsLaws.{all-settled}
@@ -60,5 +54,8 @@ module _ (N T : ℕ) (s₀ s : List ℕ) (n : ℕ) (start : StartPost N T s₀ n
             let f : FrameRight (logOf N T s first) s₁ bytes r s′ = p .right (logOf N T s first) (b .0) (b .1) in
             subst (λ (c : Call). Answered 0 (logOf N T s first) (keeping (words s₁)) c (replyOf r) (keeping (words s′)))
             (call-same s s₁ bytes (b .1 ∙ sym begun-long))
-            (record { reply = f .reply; unmarked = λ q l u. f .untouched q l u .1 });
+            (answered-by-log 0 (logOf N T s first) (keeping (words s₁)) (callOf s₁ bytes) (replyOf r) (keeping (words s′))
+            (all-settled (logOf N T s first) (words s₁) (b .0))
+            (f .reply)
+            (λ q l u. f .untouched q l u .1));
       }

@@ -1,19 +1,16 @@
 -- The four kinds of frame: what each function's calls give together. Assumes nothing.
 use Prim.Native.Nat.{ℕ, suc, _+_, _-_, _%_, _≤_, _<_, _^_}
 use native.Mathlib.Nat.{add-zero}
-use native.Mathlib.Numerals.{add-one}
 use native.Mathlib.Omega.{arith}
-use mathlib.Core.Path.{_≡_, refl, sym, ap, ap₂, _∙_, subst, subst₂}
+use mathlib.Core.Path.{_≡_, refl, sym, ap, _∙_, subst, subst₂}
 use mathlib.Core.Bool.{Bool, true, false, cond}
-use mathlib.Core.List.{List, [], _∷_, map}
-use lib.ListN.{length, getD}
+use mathlib.Core.List.{List, map}
+use lib.ListN.{getD}
 use lib.Dec.{ltb}
 use borrow.Author.Tests.{lt-ltb, le-ltb, ltb-true, ltb-false}
 use Rattle.paper.specs.Frame.{Frame, Pair, Valid}
 use Rattle.paper.specs.Frame.Frame.{message, tick}
-use Rattle.paper.specs.Window.{Message}
-use Rattle.paper.specs.Log.{Log, numbers, inForceAt, hasSerial, timeOf, judgeKind, judgeFrame, accept}
-use Rattle.paper.specs.Sound.{Sound}
+use Rattle.paper.specs.Log.{Log, numbers, inForceAt, timeOf, judgeKind, judgeFrame, accept}
 use Rattle.paper.proofs.LogLaws.{stays}
 use Rattle.paper.proofs.WindowLaws.{staying-none}
 use Rattle.memory.specs.Words.{words}

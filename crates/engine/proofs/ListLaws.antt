@@ -17,10 +17,9 @@ use Rattle.rank.specs.Listing.{linesOf, Tidy, Empty}
 use Rattle.window.specs.Layout.{recordAt}
 use Rattle.query.specs.Record.{list, HoldsAt, Holds}
 use Rattle.query.specs.Post.{LoadedList}
-use Rattle.query.proofs.RecordLaws.{in-use-is}
 use Rattle.engine.specs.Represents.{Represents, oldestOf, countOf}
 use Rattle.engine.specs.Post.{ListPost}
-use Rattle.engine.proofs.RepresentsLaws.{query-terms}
+use Rattle.engine.proofs.RepresentsLaws.{used}
 
 module _ (s : List ℕ) (n : ℕ) where
   pub list-not-lent : {l : Ranked} → (length s ≡ stateLength → ⊥) → Empty l → ListPost s n (record { number = 12; list = l })
@@ -61,13 +60,8 @@ module _ (s : List ℕ) (n : ℕ) where
 
     -- the record says which are in use
     module _ (h : n < numbers) {b : Bool} (test : b ≡ not (eqb (getD (words s) (recordAt n) 0) 0)) where
-      in-use : (log : Log) → Represents log (words s) → inUse (queryAt log n) ≡ b
-      in-use log r =
-          sym (in-use-is (words s) n (oldestOf (words s)) (countOf (words s)) (inForceNow log) (queryAt log n) (λ q e. query-terms (log .queries) n q (r .sound .queries) e) (r .records n h))
-          ∙ sym test
-
       pub unused : b ≡ false → (log : Log) → Represents log (words s) → inUse (queryAt log n) ≡ false
-      unused e log r = in-use log r ∙ e
+      unused e log r = used log (words s) n r h test ∙ e
 
       -- the list of the record is that of the log
       held : {l : Ranked} (log : Log) (q : Query) → LoadedList (words s) n l → Holds (words s) n (oldestOf (words s)) (countOf (words s)) (inForceNow log) q
@@ -85,7 +79,7 @@ module _ (s : List ℕ) (n : ℕ) where
         no-number = λ _ k. absurd (omega arith);
         most = p .count-most;
         refused = λ k. absurd (k refl);
-        right = λ log r _. go log (queryAt log n) refl (in-use log r ∙ e) (r .records n h);
+        right = λ log r _. go log (queryAt log n) refl (used log (words s) n r h test ∙ e) (r .records n h);
       }
         where
           go : (log : Log) (x : Option Query) → queryAt log n ≡ x → inUse (queryAt log n) ≡ true

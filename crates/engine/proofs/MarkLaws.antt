@@ -48,12 +48,3 @@ marks-below q false h = rw (add-one, pow-succ' 2 q) (omega arith)
 -- they are 32 bits
 pub marks-fit : (q : ℕ) {marks : ℕ} → q < 32 → marks < 2 ^ q → marks + 2 ^ q < 2 ^ 32
 marks-fit q l h = lt-of-lt-of-le (marks-below q true h) (pow-mono {i = q + 1} {j = 32} (omega arith))
-
-pub bitmap-small : (f : ℕ → Bool) (n : ℕ) → bitmap f n < 2 ^ n
-unfolding bitmap
-bitmap-small f zero = omega arith
-bitmap-small f (suc n) = go (f n) (bitmap-small f n)
-  where
-    go : (b : Bool) → bitmap f n < 2 ^ n → cond b (2 ^ n) 0 + bitmap f n < 2 ^ suc n
-    go true h = rw (pow-succ' 2 n) (omega arith)
-    go false h = rw (pow-succ' 2 n) (omega arith)

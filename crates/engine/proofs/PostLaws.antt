@@ -1,17 +1,16 @@
 -- The promise of `frame`, from the answers of its parts. Assumes nothing.
 use Prim.Native.Nat.{ℕ, zero, suc, _+_, _-_, _*_, _≤_, _<_}
 use native.Mathlib.Omega.{arith}
-use mathlib.Core.Path.{_≡_, refl, sym, ap, ap₂, _∙_, subst}
+use mathlib.Core.Path.{_≡_, refl, sym, ap, _∙_, subst}
 use mathlib.Core.Bool.{Bool, true, false, cond, _&&_}
 use mathlib.Core.List.{List}
 use lib.ListN.{length, getD, take, drop}
-use lib.Dec.{eqb, leb}
+use lib.Dec.{eqb}
 use borrow.Author.Tests.{eq-eqb, ne-eqb, eqb-true, eqb-false}
 use Rattle.paper.specs.Frame.{Frame, Shape, Valid, shape}
 use Rattle.paper.specs.Frame.Shape.{refused, accepted}
-use Rattle.paper.specs.Log.{Log, Call, stateLength, numbers, judgeShape, judgeFrame, lent, judge, accept, acceptShape, after, departuresShape, departures}
-use Rattle.paper.specs.Demand3.{marked, marksShape, markedShape, markedBy, replyTo, bitmap}
-use Rattle.paper.specs.Demand3 as Demand3
+use Rattle.paper.specs.Log.{Log, stateLength, numbers, judgeShape, judgeFrame, judge, accept, acceptShape, after, departuresShape, departures}
+use Rattle.paper.specs.Demand3.{marked, marksShape, markedShape, markedBy, replyTo}
 use Rattle.paper.proofs.FrameLaws.{shape-valid, shape-number}
 use Rattle.memory.specs.Words.{words}
 use Rattle.memory.proofs.WordLaws.{same-bytes}
@@ -19,7 +18,7 @@ use Rattle.window.specs.Layout.{recordAt, recordWords}
 use Rattle.engine.specs.declared.Reply.{Reply}
 use Rattle.engine.specs.Represents.{Represents, keeping}
 use Rattle.engine.specs.Post.{callOf, replyOf, recordBytes, FrameRight, FramePost}
-use Rattle.engine.specs.Inner.{SameRecord, Accepted, Did}
+use Rattle.engine.specs.Inner.{SameRecord, Did}
 use Rattle.engine.proofs.KindLaws.{Refusal}
 use Rattle.engine.proofs.UnmarkedLaws.{unmarked-kept}
 

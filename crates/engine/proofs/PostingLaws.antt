@@ -1,8 +1,8 @@
 -- A posting reading: what it answers where the memory holds a log. Assumes nothing.
 use Prim.Native.Nat.{ℕ, _*_, _/_, _≤_, _<_, _^_}
 use native.Mathlib.Omega.{arith}
-use mathlib.Core.Path.{_≡_, refl, sym, ap, _∙_}
-use mathlib.Core.Bool.{Bool, true, false, cond}
+use mathlib.Core.Path.{_≡_, refl, sym}
+use mathlib.Core.Bool.{Bool, cond}
 use mathlib.Core.List.{List, map}
 use lib.ListN.{length}
 use lib.Dec.{ltb, leb}
@@ -15,7 +15,7 @@ use Rattle.window.specs.Cursor.{Loaded}
 use Rattle.posting.specs.Posting.{Counted, Filled}
 use Rattle.posting.proofs.PaperLaws.{counted-postings, filled-postings}
 use Rattle.engine.specs.Represents.{Represents}
-use Rattle.engine.specs.Post.{PostingsPost, postedInto}
+use Rattle.engine.specs.Post.{PostingsPost}
 
 module _ (s : List ℕ) (t : ℕ) (out : List ℕ) where
   pub postings-not-lent : (length s ≡ stateLength → ⊥) → PostingsPost s t out (record { number = 12; count = 0 }) out

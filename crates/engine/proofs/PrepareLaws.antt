@@ -1,21 +1,18 @@
 -- Header and arriving message written: what the records and the window before it see of that. Assumes nothing.
-use Prim.Native.Nat.{ℕ, suc, _+_, _-_, _%_, _≤_, _<_}
+use Prim.Native.Nat.{ℕ, _+_, _-_, _%_, _≤_, _<_}
 use native.Mathlib.Nat.{add-zero}
 use native.Mathlib.Numerals.{add-one}
 use native.Mathlib.Omega.{arith}
-use mathlib.Core.Path.{_≡_, refl, sym, ap, ap₂, _∙_, subst}
+use mathlib.Core.Path.{_≡_, refl, sym, ap, _∙_}
 use mathlib.Core.Bool.{Bool, true, false, cond, false≢true}
-use mathlib.Core.Logic.{_⊎_, inl, inr, ⊎-elim}
+use mathlib.Core.Logic.{_⊎_, inl, inr}
 use mathlib.Core.List.{List, [], _∷_, _++_, map, append-nil}
-use lib.ListN.{length, getD}
 use lib.Dec.{ltb}
-use borrow.Author.Tests.{lt-ltb, le-ltb, ltb-true, ltb-false}
-use Rattle.paper.specs.Frame.{Frame, Pair}
+use borrow.Author.Tests.{lt-ltb, ltb-true, ltb-false}
+use Rattle.paper.specs.Frame.{Pair}
 use Rattle.paper.specs.Frame.Frame.{message, tick}
-use Rattle.paper.specs.Window.{Message}
-use Rattle.memory.specs.Keeps.{Keeps}
-use Rattle.window.specs.Layout.{slots, slotAt, slotWords, recordAt, recordWords}
-use Rattle.window.specs.Slot.{Slot, slot, stored, ring, window}
+use Rattle.window.specs.Layout.{slots, slotAt, slotWords, recordAt}
+use Rattle.window.specs.Slot.{Slot, slot, ring, window}
 use Rattle.window.specs.Cursor.{Moved, Written}
 use Rattle.window.proofs.RingLaws.{ring-last, moved-below, moved-end}
 use Rattle.window.proofs.SlotLaws.{slot-kept}

@@ -2,15 +2,14 @@
 use Prim.Native.Nat.{ℕ, zero, suc, _≤_, _<_, _^_}
 use native.Mathlib.Nat.{not-suc-le-zero, le-of-suc-le-suc}
 use native.Mathlib.Omega.{arith}
-use mathlib.Core.Path.{_≡_, refl, sym, ap, ap₂, _∙_, subst}
+use mathlib.Core.Path.{_≡_, refl, sym, ap, _∙_}
 use mathlib.Core.List.{List, [], _∷_, map}
 use lib.ListN.{length, getD}
-use Rattle.paper.specs.Frame.{Pair, Frame, Shape, AllFit, Pairs, Valid, countWidth, weightWidth, mostPairs, mostTerms, termWidth, shape}
+use Rattle.paper.specs.Frame.{Pair, Frame, Shape, AllFit, countWidth, weightWidth, termWidth, shape}
 use Rattle.paper.specs.Frame.Frame.{message, tick, register, unregister}
 use Rattle.paper.specs.Frame.Shape.{refused, accepted}
 use Rattle.paper.specs.Write.{side-by-side}
 use Rattle.paper.proofs.FrameLaws.{shape-valid}
-use Rattle.frame.specs.declared.Kind.{Kind}
 use Rattle.frame.specs.declared.Kind.the-variants.{Message, Tick, Register, Unregister, Refused}
 use Rattle.frame.specs.declared.Parsed.{Parsed}
 use Rattle.frame.specs.Read.{answerOf, pairsIn, padded, termArray, amountArray, ReadPost}

@@ -1,37 +1,37 @@
 -- Registering and dropping a query: one record changes beside what a tick changes. Assumes nothing.
-use Prim.Native.Nat.{ℕ, suc, _+_, _*_, _%_, _≤_, _<_, _^_}
-use native.Mathlib.Nat.{le-refl, mod-eq-of-lt}
+use Prim.Native.Nat.{ℕ, _+_, _%_, _≤_, _<_, _^_}
+use native.Mathlib.Nat.{mod-eq-of-lt}
 use native.Mathlib.Omega.{arith}
 use mathlib.Core.Path.{_≡_, refl, sym, ap, ap₂, _∙_, subst, subst₂}
-use mathlib.Core.Bool.{Bool, true, false, cond, not, _||_, true≢false}
-use mathlib.Core.Logic.{_⊎_, inl, inr}
-use mathlib.Core.List.{List, [], _∷_, _++_, map}
+use mathlib.Core.Bool.{Bool, true, false, _||_}
+use mathlib.Core.Logic.{inl}
+use mathlib.Core.List.{List, [], _++_, map}
 use mathlib.Core.Option.{Option, none, some}
 use lib.ListN.{length, getD, set, length-set}
 use lib.Seq.{getD-set-same, getD-set-other}
 use lib.Dec.{eqb, ltb}
-use borrow.Author.Tests.{eq-eqb, ne-eqb, eqb-true, eqb-false, ltb-true, ltb-false}
-use Rattle.paper.specs.Frame.{Frame, Pair, Valid}
+use borrow.Author.Tests.{eqb-true, eqb-false, ltb-true, ltb-false}
+use Rattle.paper.specs.Frame.{Pair, Valid}
 use Rattle.paper.specs.Frame.Frame.{tick, register, unregister}
 use Rattle.paper.specs.Rank.{Query}
 use Rattle.paper.specs.Window.{Message}
-use Rattle.paper.specs.Log.{Log, numbers, queryAt, inUse, inForceNow, judgeFrame, accept, departs, arrivals}
+use Rattle.paper.specs.Log.{Log, numbers, queryAt, inForceNow, judgeFrame, accept, departs}
 use Rattle.paper.specs.Sound.{Sound, Terms}
-use Rattle.paper.specs.Demand3.{Keeping, reachedBy, marked, bitmap}
+use Rattle.paper.specs.Demand3.{reachedBy, marked, bitmap}
 use Rattle.paper.proofs.Tests.{or-false}
 use Rattle.paper.proofs.LogLaws.{accept-sound, no-query, in-force-valid}
 use Rattle.memory.specs.Keeps.{Keeps}
-use Rattle.window.specs.Layout.{slots, recordAt, recordWords, slotAt, slotWords, oldestAt, countAt, clockAt}
+use Rattle.window.specs.Layout.{slots, recordAt, recordWords, oldestAt, countAt, clockAt}
 use Rattle.window.specs.Slot.{slot, stored, window}
 use Rattle.window.proofs.SlotLaws.{slot-kept, window-kept}
-use Rattle.candidates.specs.Flags.{inRing}
-use Rattle.query.specs.Record.{HoldsAt, Holds}
+use Rattle.query.specs.Record.{HoldsAt}
 use Rattle.query.specs.Post.{Registered, Cleared, Over}
 use Rattle.engine.specs.declared.Reply.{Reply}
 use Rattle.engine.specs.Represents.{oldestOf, countOf, Represents, keeping}
 use Rattle.engine.specs.Inner.{SameRecord, reachedIn, Accepted}
-use Rattle.engine.proofs.MarkLaws.{bitmap-same, bitmap-more, bitmap-small}
-use Rattle.engine.proofs.RepresentsLaws.{query-terms, empty-first, used-first, reached-by}
+use Rattle.paper.proofs.MarkLaws.{bitmap-small}
+use Rattle.engine.proofs.MarkLaws.{bitmap-same, bitmap-more}
+use Rattle.engine.proofs.RepresentsLaws.{query-terms, reached-by}
 use Rattle.engine.proofs.SameLaws.{same-thresholds, holds-still}
 
 -- ---- one record changed
@@ -81,15 +81,6 @@ module _ (p : ℕ) (w w′ : List ℕ) (keeps : Keeps (recordAt p) (recordAt p +
           (holds-still w w′ q (keeps .long) (other-record q (eqb-false p q e)) (oldestOf w) (countOf w) (r .oldest-below) (let l = r .count-below in omega arith)
           (λ j l i. every-slot j l) (inForceNow log) (queryAt log q)
           (λ y z. query-terms (log .queries) q y (r .sound .queries) z .terms .at-most) (r .records q h))
-
--- whether a number is in use, as its record says
-pub used : (log : Log) (w : List ℕ) (q : ℕ) → Represents log w → q < numbers → inUse (queryAt log q) ≡ not (eqb (getD w (recordAt q) 0) 0)
-used log w q r h = go (queryAt log q) refl (r .records q h)
-  where
-    go : (x : Option Query) → queryAt log q ≡ x → HoldsAt w q (oldestOf w) (countOf w) (inForceNow log) x → inUse x ≡ not (eqb (getD w (recordAt q) 0) 0)
-    go none e a = rw (eq-eqb (getD w (recordAt q) 0) 0 (empty-first w q (oldestOf w) (countOf w) (inForceNow log) a))
-    go (some x) e a =
-        rw (ne-eqb (getD w (recordAt q) 0) 0 (used-first w q (oldestOf w) (countOf w) (inForceNow log) x (query-terms (log .queries) q x (r .sound .queries) e) a))
 
 -- ---- a query registered
 

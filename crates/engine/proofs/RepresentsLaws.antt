@@ -1,21 +1,21 @@
 -- What memory that holds a log keeps of each query. Assumes nothing.
-use Prim.Native.Nat.{ℕ, zero, suc, _+_, _*_, _≤_, _<_}
+use Prim.Native.Nat.{ℕ, zero, suc, _<_}
 use native.Mathlib.Omega.{arith}
-use mathlib.Core.Path.{_≡_, refl, sym, ap, ap₂, _∙_, subst}
-use mathlib.Core.Bool.{Bool, true, false, cond, not}
-use mathlib.Core.List.{List, [], _∷_, _++_, map}
+use mathlib.Core.Path.{_≡_, refl, sym, _∙_, subst}
+use mathlib.Core.Bool.{Bool, not}
+use mathlib.Core.List.{List, [], _∷_}
 use mathlib.Core.Option.{Option, none, some}
-use lib.ListN.{length, getD, take, drop}
+use lib.ListN.{length, getD}
 use lib.Dec.{eqb}
-use borrow.Author.Tests.{eq-eqb, ne-eqb}
+use borrow.Author.Tests.{not-true, not-false}
 use Rattle.paper.specs.Rank.{Query}
 use Rattle.paper.specs.Window.{Message}
-use Rattle.paper.specs.Threshold.{Kept, Settled, reached}
-use Rattle.paper.specs.Log.{Log, numbers, queryAt, inForceNow}
-use Rattle.paper.specs.Sound.{Sound, Terms, Queries}
-use Rattle.paper.specs.Demand3.{Keeping, SettledAt, AllSettled, reachedBy}
+use Rattle.paper.specs.Log.{Log, numbers, queryAt, inUse, inForceNow}
+use Rattle.paper.specs.Sound.{Terms, Queries}
+use Rattle.paper.specs.Demand3.{SettledAt, AllSettled, reachedBy}
 use Rattle.window.specs.Layout.{recordAt}
-use Rattle.query.specs.Record.{sizeIn, keptOf, thresholds, Says, Holds, HoldsAt}
+use Rattle.query.specs.Record.{keptOf, Holds, HoldsAt}
+use Rattle.query.proofs.RecordLaws.{in-use-is}
 use Rattle.engine.specs.Represents.{oldestOf, countOf, Represents, keeping}
 use Rattle.engine.specs.Inner.{reachedIn}
 
@@ -27,23 +27,21 @@ query-terms (some x ∷ qs) zero q v e = let s : x ≡ q = cc in subst Terms s (
 query-terms (none ∷ qs) (suc n) q v e = query-terms qs n q v e
 query-terms (some x ∷ qs) (suc n) q v e = query-terms qs n q (v .1) e
 
-module _ (w : List ℕ) (q o n : ℕ) (ms : List Message) where
-  -- nothing is kept at a number not in use
-  pub empty-first : HoldsAt w q o n ms none → getD w (recordAt q) 0 ≡ 0
-  empty-first h = ap (λ (i : ℕ). getD w i 0) (omega arith) ∙ h 0 (omega arith)
-
-  pub used-first : (x : Query) → Terms x → Holds w q o n ms x → getD w (recordAt q) 0 ≡ 0 → ⊥
-  used-first x t h e = let k = h .says .k in let l = t .k-least in omega arith
-
 module _ (w : List ℕ) (q : ℕ) (ms : List Message) where
+  -- whether the record is in use is whether it starts with 0
+  first-is : (x : Option Query) → ((y : Query) → x ≡ some y → Terms y) → HoldsAt w q (oldestOf w) (countOf w) ms x
+      → not (eqb (getD w (recordAt q) 0) 0) ≡ inUse x
+  first-is = in-use-is w q (oldestOf w) (countOf w) ms
+
   pub kept-none : HoldsAt w q (oldestOf w) (countOf w) ms none → keeping w q ≡ none
   unfolding keeping
-  kept-none h = rw (eq-eqb (getD w (recordAt q) 0) 0 (empty-first w q (oldestOf w) (countOf w) ms h))
+  kept-none h = rw (not-false (eqb (getD w (recordAt q) 0) 0) (first-is none (λ y e. let z : _≡_ {A = ℕ} 0 1 = cc in absurd (omega arith)) h))
 
   pub kept-some : (x : Query) → Terms x → Holds w q (oldestOf w) (countOf w) ms x
       → keeping w q ≡ some (keptOf w q (oldestOf w) (countOf w) (length (x .terms)))
   unfolding keeping
-  kept-some x t h = rw (ne-eqb (getD w (recordAt q) 0) 0 (used-first w q (oldestOf w) (countOf w) ms x t h), h .says .size)
+  kept-some x t h =
+      rw (not-true (eqb (getD w (recordAt q) 0) 0) (first-is (some x) (λ y e. let s : x ≡ y = cc in subst Terms s t) h), h .says .size)
 
   settled-at : (x : Option Query) → ((y : Query) → x ≡ some y → Terms y) → HoldsAt w q (oldestOf w) (countOf w) ms x → SettledAt x ms (keeping w q)
   settled-at none t h = rw (kept-none h) tt
@@ -64,3 +62,8 @@ pub reached-by : (log : Log) (w : List ℕ) (q : ℕ) (moved : List Message) →
     → reachedBy (queryAt log q) (keeping w q) moved ≡ reachedIn w q (queryAt log q) moved
 reached-by log w q moved r h =
     reached-at w q (inForceNow log) (queryAt log q) moved (λ y e. query-terms (log .queries) q y (r .sound .queries) e) (r .records q h)
+
+-- a number is in use as its record says
+pub used : (log : Log) (w : List ℕ) (q : ℕ) {b : Bool} → Represents log w → q < numbers → b ≡ not (eqb (getD w (recordAt q) 0) 0) → inUse (queryAt log q) ≡ b
+used log w q r h test =
+    sym (first-is w q (inForceNow log) (queryAt log q) (λ y e. query-terms (log .queries) q y (r .sound .queries) e) (r .records q h)) ∙ sym test

@@ -1,25 +1,24 @@
 -- What a record says depends on its own words and on the slots of the window. Assumes nothing.
-use Prim.Native.Nat.{ℕ, zero, suc, _+_, _-_, _*_, _%_, _≤_, _<_}
+use Prim.Native.Nat.{ℕ, zero, suc, _+_, _-_, _%_, _≤_, _<_}
 use native.Mathlib.Omega.{arith}
 use mathlib.Core.Path.{_≡_, refl, sym, ap, ap₂, _∙_, subst}
 use mathlib.Core.Bool.{Bool, true, false, cond, _&&_}
-use mathlib.Core.List.{List, [], _∷_, _++_, map}
+use mathlib.Core.List.{List, [], _∷_, map}
 use mathlib.Core.Option.{Option, none, some}
 use lib.ListN.{length, getD, take, drop, length-take, length-drop}
 use lib.Seq.{getD-take, getD-drop, ext-getD}
-use lib.Dec.{ltb}
 use borrow.Author.Tests.{lt-ltb}
 use Rattle.paper.specs.Frame.{Pair}
 use Rattle.paper.specs.Rank.{Query}
 use Rattle.paper.specs.Sort.{select}
 use Rattle.paper.specs.Window.{Message}
 use Rattle.paper.specs.Threshold.{Settled}
-use Rattle.rank.specs.Listing.{listed, ZeroFrom}
+use Rattle.rank.specs.Listing.{listed}
 use Rattle.window.specs.Layout.{slots, recordAt, recordWords}
 use Rattle.window.specs.Slot.{Slot, slot, ring, window, next}
 use Rattle.candidates.specs.Match.{exceedsCells}
 use Rattle.candidates.specs.Flags.{flagOf, inRing}
-use Rattle.query.specs.Record.{thresholdsIn, keptOf, thresholds, flags, list, candidates, Says, Holds, HoldsAt}
+use Rattle.query.specs.Record.{keptOf, thresholds, flags, list, candidates, HoldsAt}
 use Rattle.engine.specs.Inner.{SameRecord}
 
 -- ---- the slots of a window

@@ -1,36 +1,32 @@
 -- An accepted frame: how the window of a log changes, and that memory then holds the log after it. Assumes nothing.
-use Prim.Native.Nat.{ℕ, zero, suc, _+_, _-_, _*_, _%_, _≤_, _<_, _^_}
+use Prim.Native.Nat.{ℕ, _+_, _-_, _%_, _≤_, _<_}
 use native.Mathlib.Nat.{le-refl}
-use native.Mathlib.Numerals.{add-one}
 use native.Mathlib.Omega.{arith}
 use mathlib.Core.Path.{_≡_, refl, sym, ap, ap₂, _∙_, subst, subst₂}
-use mathlib.Core.Bool.{Bool, true, false, cond, _&&_, _||_}
-use mathlib.Core.Logic.{_⊎_, inl, inr}
-use mathlib.Core.List.{List, [], _∷_, _++_, map, map-append, append-nil, append-assoc, append-cancel-right}
+use mathlib.Core.Bool.{true, false}
+use mathlib.Core.Logic.{inl}
+use mathlib.Core.List.{List, _++_, map, map-append, append-cancel-right}
 use mathlib.Core.Option.{Option, none, some}
-use lib.ListN.{length, getD, length-map, length-append}
-use lib.Dec.{ltb, leb}
-use borrow.Author.Tests.{lt-ltb, le-ltb}
+use lib.ListN.{length, getD, length-map}
+use borrow.Author.Tests.{le-ltb}
 use Rattle.paper.specs.Frame.{Frame, Valid}
 use Rattle.paper.specs.Rank.{Query}
 use Rattle.paper.specs.Window.{Message}
-use Rattle.paper.specs.Log.{Log, numbers, queryAt, inForceNow, inForceAt, timeOf, judgeFrame, arrivals, accept, departs}
-use Rattle.paper.specs.Sound.{Sound, Messages, Terms}
+use Rattle.paper.specs.Log.{Log, numbers, queryAt, inForceNow, timeOf, judgeFrame, arrivals, accept, departs}
+use Rattle.paper.specs.Sound.{Messages}
 use Rattle.paper.specs.Demand3.{marked, bitmap, names}
 use Rattle.paper.proofs.LogLaws.{stays, in-force-before, in-force-after, accept-sound, messages-parts, messages-append, in-force-valid}
-use Rattle.memory.specs.Keeps.{Keeps}
-use Rattle.memory.proofs.KeepsLaws.{keeps-at}
-use Rattle.window.specs.Layout.{slots, stateWords, clockAt, oldestAt, countAt, recordAt, recordWords, slotAt, slotWords}
+use Rattle.window.specs.Layout.{slots, clockAt, oldestAt, countAt, recordAt}
 use Rattle.window.specs.Slot.{Slot, slot, stored, ring, window}
 use Rattle.window.specs.Cursor.{Moved}
-use Rattle.window.proofs.RingLaws.{ring-length, moved-below, moved-parts, moved-end}
-use Rattle.window.proofs.SlotLaws.{slot-kept, window-kept}
+use Rattle.window.proofs.RingLaws.{ring-length, moved-below, moved-parts}
+use Rattle.window.proofs.SlotLaws.{window-kept}
 use Rattle.candidates.specs.Flags.{inRing}
-use Rattle.query.specs.Record.{HoldsAt, thresholds}
+use Rattle.query.specs.Record.{HoldsAt}
 use Rattle.query.specs.Post.{Change, arriving}
 use Rattle.engine.specs.declared.Reply.{Reply}
 use Rattle.engine.specs.Represents.{oldestOf, countOf, Represents, keeping}
-use Rattle.engine.specs.Inner.{SameRecord, PutCursor, Passed, reachedIn, Accepted}
+use Rattle.engine.specs.Inner.{SameRecord, Passed, reachedIn, Accepted}
 use Rattle.engine.proofs.MarkLaws.{bitmap-same}
 use Rattle.engine.proofs.RepresentsLaws.{query-terms, reached-by}
 use Rattle.engine.proofs.SameLaws.{same-thresholds, holds-still}

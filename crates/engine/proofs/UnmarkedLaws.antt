@@ -1,13 +1,11 @@
 -- A record that a frame leaves as it was keeps the same thresholds, candidates and list. Assumes nothing.
-use Prim.Native.Nat.{ℕ, suc, _+_, _*_, _≤_, _<_}
-use native.Mathlib.Omega.{arith}
-use mathlib.Core.Path.{_≡_, refl, sym, ap, ap₂, _∙_, subst}
-use mathlib.Core.Bool.{Bool, true, false}
-use mathlib.Core.List.{List, [], _∷_, _++_}
+use Prim.Native.Nat.{ℕ, _<_}
+use mathlib.Core.Path.{_≡_, refl, sym, ap, _∙_, subst}
+use mathlib.Core.Bool.{false}
+use mathlib.Core.List.{List, _++_}
 use mathlib.Core.Option.{Option, none, some}
-use lib.ListN.{length, getD, take, drop, set, length-take, length-drop}
-use lib.Seq.{getD-take, getD-drop, ext-getD, getD-set-other}
-use lib.Dec.{eqb}
+use lib.ListN.{length}
+use lib.Seq.{getD-set-other}
 use borrow.Author.Tests.{eqb-false}
 use Rattle.paper.specs.Frame.{Frame}
 use Rattle.paper.specs.Frame.Frame.{message, tick, register, unregister}
@@ -15,14 +13,12 @@ use Rattle.paper.specs.Rank.{Query, serials}
 use Rattle.paper.specs.Window.{Message}
 use Rattle.paper.specs.Threshold.{candidates}
 use Rattle.paper.specs.Log.{Log, numbers, queryAt, inForceNow, accept, judgeFrame, departs, arrivals}
-use Rattle.paper.specs.Sound.{Sound, Terms}
+use Rattle.paper.specs.Sound.{Terms}
 use Rattle.paper.specs.Demand3.{names, reachedBy, marked}
 use Rattle.paper.proofs.Tests.{or-false}
 use Rattle.paper.proofs.LogLaws.{stays, in-force-before, in-force-after}
 use Rattle.paper.proofs.ThresholdLaws.{same-candidates}
-use Rattle.rank.specs.Listing.{listed}
-use Rattle.window.specs.Layout.{recordAt, recordWords}
-use Rattle.query.specs.Record.{keptOf, thresholds, list, Says, Holds, HoldsAt}
+use Rattle.query.specs.Record.{keptOf, thresholds, list, Holds, HoldsAt}
 use Rattle.engine.specs.Represents.{oldestOf, countOf, Represents, keeping}
 use Rattle.engine.specs.Inner.{SameRecord, reachedIn}
 use Rattle.engine.proofs.SameLaws.{same-thresholds, same-list}

@@ -76,7 +76,7 @@ pub record ListPost (s : List ℕ) (n : ℕ) (r : Listing) : Type 0 where
 abbrev pub postedInto : Log → ℕ → List ℕ → List ℕ
 postedInto log t out = lineBytes (posted log t) ++ drop (postingLength * length (posted log t)) out
 
--- "A posting reading: state length, 5, then output length; it returns the count and writes each one's serial and impact."
+-- "A posting reading: state length, 5, then output length; it returns how many there are and writes each one's serial and impact."
 pub record PostingsPost (s : List ℕ) (t : ℕ) (out : List ℕ) (r : Found) (out′ : List ℕ) : Type 0 where
   pub long : length out′ ≡ length out
   pub not-lent : (length s ≡ stateLength → ⊥) → r .number ≡ 12

@@ -6,8 +6,9 @@ use mathlib.Core.List.{List}
 use lib.ListN.{length}
 use lib.Dec.{leb}
 use borrow.Author.Tests.{leb-true, leb-false}
-use Rattle.paper.specs.Log.{Log, Call, stateLength, fresh, after, replay, judgeList, listed}
-use Rattle.paper.specs.Demand3.{Answered}
+use Rattle.paper.specs.Log.{Log, Call, stateLength, numbers, fresh, after, replay, judgeList, listed}
+use Rattle.paper.specs.Demand3.{replyTo, markedBy, Answered}
+use Rattle.paper.proofs.MarkLaws.{answered-by-log}
 use Rattle.memory.specs.Words.{words}
 use Rattle.rank.specs.Listing as Listing
 use Rattle.rank.specs.Listing.{linesOf}
@@ -37,6 +38,11 @@ record Stepped (log : Log) (s bytes a : List ℕ) (r : ℕ) (s′ a′ : List �
 
 module _ (log : Log) (s bytes a : List ℕ) (r : ℕ) (s′ a′ : List ℕ) (is : Represents log (words s)) (l : length s ≡ stateLength)
     (p : FrameEntry s bytes a r s′ a′) where
+  abbrev answers : replyOf (heardReply r a′) ≡ replyTo frameAnswer log (keeping (words s)) (callOf s bytes a)
+      → ((q : ℕ) → q < numbers → markedBy frameAnswer log (keeping (words s)) (callOf s bytes a) q ≡ false → keeping (words s′) q ≡ keeping (words s) q)
+      → Answered frameAnswer log (keeping (words s)) (callOf s bytes a) (replyOf (heardReply r a′)) (keeping (words s′))
+  answers = answered-by-log frameAnswer log (keeping (words s)) (callOf s bytes a) (replyOf (heardReply r a′)) (keeping (words s′)) (all-settled log (words s) is)
+
   step-enough : frameAnswer ≤ length a → Stepped log s bytes a r s′ a′
   step-enough h =
       let post = p .enough h in
@@ -44,10 +50,10 @@ module _ (log : Log) (s bytes a : List ℕ) (r : ℕ) (s′ a′ : List ℕ) (is
       record {
         long = post .long ∙ l;
         holds = subst (λ (x : Log). Represents x (words s′)) (sym (after-enough frameAnswer log (callOf s bytes a) h)) (right .holds);
-        answered = record {
-          reply = right .reply ∙ sym (reply-enough frameAnswer log (callOf s bytes a) h (keeping (words s)));
-          unmarked = λ q k u. right .untouched q k (sym (marked-enough frameAnswer log (callOf s bytes a) h (keeping (words s)) q) ∙ u) .1;
-        };
+        answered =
+            answers
+            (right .reply ∙ sym (reply-enough frameAnswer log (callOf s bytes a) h (keeping (words s))))
+            (λ q k u. right .untouched q k (sym (marked-enough frameAnswer log (callOf s bytes a) h (keeping (words s)) q) ∙ u) .1);
       }
 
   step-short : length a < frameAnswer → Stepped log s bytes a r s′ a′
@@ -56,10 +62,10 @@ module _ (log : Log) (s bytes a : List ℕ) (r : ℕ) (s′ a′ : List ℕ) (is
       record {
         long = ap length (short .1) ∙ l;
         holds = rw (after-short frameAnswer log (callOf s bytes a) h, short .1) is;
-        answered = record {
-          reply = rw (short .0) (sym (reply-short frameAnswer log (callOf s bytes a) h (keeping (words s))));
-          unmarked = λ q k u. ap (λ (x : List ℕ). keeping (words x) q) (short .1);
-        };
+        answered =
+            answers
+            (rw (short .0) (sym (reply-short frameAnswer log (callOf s bytes a) h (keeping (words s)))))
+            (λ q k u. ap (λ (x : List ℕ). keeping (words x) q) (short .1));
       }
 
   step : Stepped log s bytes a r s′ a′

@@ -1,5 +1,5 @@
--- Laws of the writer's entry: terms of two bytes each, no more than sixteen of them, and number and length in one number. Assumes nothing.
-use Prim.Native.Nat.{ℕ, zero, suc, _+_, _-_, _*_, _/_, _%_, _≤_, _<_}
+-- Laws of the writer's entry: terms of two bytes each, no more than sixteen of them, and a number and a size in one number. Assumes nothing.
+use Prim.Native.Nat.{ℕ, zero, suc, _+_, _*_, _/_, _%_, _≤_, _<_}
 use native.Mathlib.Nat.{not-suc-le-zero}
 use native.Mathlib.Numerals.{towards-suc}
 use native.Mathlib.Omega.{arith}
@@ -11,11 +11,10 @@ use lib.Seq.{take-all}
 use lib.Dec.{eqb, leb}
 use borrow.Author.Tests.{leb-true, leb-false, le-leb, lt-leb}
 use Rattle.wire.specs.Field.{total}
-use Rattle.paper.specs.Frame.{Frame, Pair, Shape, Valid, encode, messageHead, tickHead, registerHead, unregisterHead, countWidth, weightWidth}
-use Rattle.paper.specs.Frame.Frame.{message, tick, register, unregister}
+use Rattle.paper.specs.Frame.{Pair, Shape}
 use Rattle.paper.specs.Frame.Shape.{refused, accepted}
 use Rattle.paper.specs.Write.{Fields, side-by-side, fromFields, bytesOf}
-use Rattle.paper.proofs.FrameLaws.{encode-length}
+use Rattle.paper.proofs.FrameLaws.{encode-most}
 use Rattle.paper.proofs.WriteLaws.{fields-valid}
 use Rattle.memory.proofs.ArrayLaws.{copy-more}
 use Rattle.frame.specs.declared.Written.{Written}
@@ -109,18 +108,16 @@ take-cut count ts h all = go (leb 16 count) refl
         let s = all (leb-false 16 count e) in
         take-all count ts (omega arith) ∙ sym (take-all 16 ts (omega arith))
 
--- ---- number and length
+-- ---- a number and a size in one number
 
-encode-most : (f : Frame) → Valid f → length (encode f) ≤ 44
-unfolding encode total
-encode-most (message t s ps) v = omega (arith, encode-length messageHead countWidth (1 ∷ t ∷ s ∷ (length ps - 1) ∷ []) ps, v .pairs .at-most)
-encode-most (tick t) v = omega (arith, encode-length tickHead 0 (2 ∷ t ∷ []) [])
-encode-most (register t n k ps) v =
-    omega (arith, encode-length registerHead weightWidth (3 ∷ t ∷ n ∷ (k - 1) ∷ (length ps - 1) ∷ []) ps, v .terms .at-most)
-encode-most (unregister t n) v = omega (arith, encode-length unregisterHead 0 (4 ∷ t ∷ n ∷ []) [])
+-- both are heard again
+pub both-heard : (number size : ℕ) → size < 4294967296
+    → (number ≡ (number * 4294967296 + size) / 4294967296) × (size ≡ (number * 4294967296 + size) % 4294967296)
+both-heard number size h = (omega arith, omega arith)
 
 -- no frame has more than 44 bytes
 pub written-most : (x : Fields) {s t : List ℕ} {w : Written} → WritePost (fromFields x) s t w → w .length ≤ 44
+unfolding total
 written-most x {w = w} p = go (fromFields x) refl (eqb (w .number) 0) (p .size)
   where
     go : (sh : Shape) → fromFields x ≡ sh → (b : Bool) → w .length ≡ cond b (length (bytesOf sh)) 0 → w .length ≤ 44
@@ -131,10 +128,8 @@ written-most x {w = w} p = go (fromFields x) refl (eqb (w .number) 0) (p .size)
 pub write-heard : (x : Fields) (count : ℕ) {first s t : List ℕ} {w : Written} → first ≡ take count (x .terms) → count ≤ 16 → (count < 16 → count ≡ length (x .terms))
     → WritePost (fromFields (withTerms x first)) s t w → WritePost (fromFields x) s t (heardWriting (w .number * 4294967296 + w .length))
 write-heard x count {first} {s} {t} {w} e h all p =
-    let r : ℕ = w .number * 4294967296 + w .length in
     let m : w .length ≤ 44 = written-most (withTerms x first) p in
-    let n : w .number ≡ r / 4294967296 = omega arith in
-    let l : w .length ≡ r % 4294967296 = omega arith in
-    let same : w ≡ heardWriting r = λ i. record { number = n i; length = l i } in
+    let e′ = both-heard (w .number) (w .length) (omega arith) in
+    let same : w ≡ heardWriting (w .number * 4294967296 + w .length) = λ i. record { number = e′ .0 i; length = e′ .1 i } in
     let cut : fromFields (withTerms x first) ≡ fromFields x = rw (e, take-cut count (x .terms) h all) (fields-cut x) in
     subst (λ (v : Written). WritePost (fromFields x) s t v) same (subst (λ (sh : Shape). WritePost sh s t w) cut p)

@@ -1,2 +1,3 @@
 pub mod Entry
+pub mod Sizes
 pub mod Demand3

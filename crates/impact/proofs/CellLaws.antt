@@ -1,6 +1,6 @@
 -- Laws of cells: a cell gives its parts back, and a message's cells its pairs, its impacts and their rising terms; and the sum of squares.
 -- Assumes nothing.
-use Prim.Native.Nat.{ℕ, zero, suc, _+_, _*_, _^_, _≤_, _<_}
+use Prim.Native.Nat.{ℕ, zero, suc, _+_, _*_, _≤_, _<_}
 use native.Mathlib.Nat.{not-suc-le-zero}
 use native.Mathlib.Numerals.{add-one}
 use native.Mathlib.Omega.{arith}
@@ -8,7 +8,7 @@ use mathlib.Core.Path.{_≡_, refl, sym, ap, ap₂, _∙_}
 use mathlib.Core.Bool.{Bool, true, false, cond}
 use mathlib.Core.List.{List, [], _∷_, map}
 use lib.ListN.{length, getD, take, length-map, List·getD-map}
-use lib.Seq.{length-take-le, getD-take}
+use lib.Seq.{getD-take}
 use lib.Dec.{eqb, leb, ltb}
 use borrow.Author.Tests.{ltb-true, leb-true, ne-eqb}
 use Rattle.paper.specs.Frame.{Pair, Pairs, AllFit, countWidth, mostPairs, positive, rises}
@@ -16,7 +16,8 @@ use Rattle.paper.specs.Impact.{impact, squares, countOf, impactIn}
 use Rattle.paper.specs.Write.{side-by-side}
 use Rattle.paper.proofs.Tests.{and-true}
 use Rattle.paper.proofs.ImpactLaws.{impact-most}
-use Rattle.impact.specs.Cell.{packed, cellTerm, cellCount, cellImpact, cellOf, cellsOf, pairsOfCells, squaresOf, lookup, RisingCells, RisingTerms}
+use Rattle.paper.proofs.WriteLaws.{length-side}
+use Rattle.impact.specs.Cell.{packed, cellTerm, cellImpact, cellOf, cellsOf, squaresOf, lookup, RisingCells, RisingTerms}
 
 -- ---- a cell and its parts
 
@@ -24,14 +25,8 @@ module _ {t f v : ℕ} (term : t < 1024) (count : f < 256) (small : v < 16384) w
   pub packed-term : cellTerm (packed t f v) ≡ t
   packed-term = omega arith
 
-  pub packed-count : cellCount (packed t f v) ≡ f
-  packed-count = omega arith
-
   pub packed-impact : cellImpact (packed t f v) ≡ v
   packed-impact = omega arith
-
-  pub packed-fits : packed t f v < 2 ^ 32
-  packed-fits = omega arith
 
 -- ---- the cells of a message
 
@@ -66,13 +61,6 @@ module _ (n : ℕ) where
   terms-in [] a = refl
   terms-in (p ∷ ps) a = ap₂ _∷_ (packed-term (a .0) (a .1) (impact-small (p .amount) n)) (terms-in ps (a .2))
 
-  pairs-in : (ps : List Pair) → AllFit countWidth ps → pairsOfCells (map (cellOf n) ps) ≡ ps
-  unfolding pairsOfCells
-  pairs-in [] a = refl
-  pairs-in (p ∷ ps) a =
-      let s = impact-small (p .amount) n in
-      rw (packed-term (a .0) (a .1) s, packed-count (a .0) (a .1) s) (ap (λ (qs : List Pair). p ∷ qs) (pairs-in ps (a .2)))
-
 -- ---- rising terms
 
 rises-parts : (least : ℕ) (p : Pair) (ps : List Pair) → rises least (p ∷ ps) ≡ true → (least ≤ p .term) × (rises (suc (p .term)) ps ≡ true)
@@ -105,10 +93,6 @@ module _ (ps : List Pair) (v : Pairs countWidth mostPairs ps) where
   pub rising-cells : RisingCells (cellsOf ps)
   rising-cells i j h k = rw (term-at i, term-at j) (rises-at 0 ps (v .in-order) i j h (rw length-cells at k))
 
-  pub pairs-of-cells : pairsOfCells (cellsOf ps) ≡ ps
-  unfolding cellsOf
-  pairs-of-cells = pairs-in (squares ps) ps (v .fit)
-
 -- ---- a query's terms, as a list or an array that starts with them
 
 pub rising-terms : {w most : ℕ} (qs : List Pair) (ts : List ℕ) → Pairs w most qs → take (length qs) ts ≡ map (λ q. q .term) qs → RisingTerms (length qs) ts
@@ -127,7 +111,7 @@ terms-side (suc n) (t ∷ ts) (u ∷ us) h = ap (λ (l : List ℕ). t ∷ l) (te
 pub rising-side : {w most : ℕ} (n : ℕ) (ts us : List ℕ) → n ≤ length ts → n ≤ length us → Pairs w most (side-by-side n ts us) → RisingTerms n ts
 rising-side n ts us h k v =
     let e = terms-side n ts us k in
-    let l : length (side-by-side n ts us) ≡ n = sym (length-map (side-by-side n ts us) (λ q. q .term)) ∙ ap length e ∙ length-take-le n ts h in
+    let l : length (side-by-side n ts us) ≡ n = length-side n ts us h k in
     rw l at (rising-terms (side-by-side n ts us) ts v (rw l (sym e)))
 
 -- ---- the sum of squares

@@ -15,9 +15,6 @@ packed term count impact = term * 4194304 + count * 16384 + impact
 abbrev pub cellTerm : ℕ → ℕ
 cellTerm c = c / 4194304
 
-abbrev pub cellCount : ℕ → ℕ
-cellCount c = c / 16384 % 256
-
 abbrev pub cellImpact : ℕ → ℕ
 cellImpact c = c % 16384
 
@@ -25,12 +22,9 @@ cellImpact c = c % 16384
 abbrev pub cellOf : ℕ → Pair → ℕ
 cellOf n p = packed (p .term) (p .amount) (impact (p .amount) n)
 
--- the cells of a message, and the pairs of the message with these cells
+-- the cells of a message
 unfoldable pub cellsOf : List Pair → List ℕ
 cellsOf ps = map (cellOf (squares ps)) ps
-
-unfoldable pub pairsOfCells : List ℕ → List Pair
-pairsOfCells cs = map (λ c. record { term = cellTerm c; amount = cellCount c }) cs
 
 -- the sum of the first m numbers squared
 unfoldable pub squaresOf : ℕ → List ℕ → ℕ

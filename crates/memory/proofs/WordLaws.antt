@@ -6,7 +6,6 @@ use native.Mathlib.Omega.{arith}
 use mathlib.Core.Path.{_≡_, refl, sym, ap, _∙_}
 use mathlib.Core.List.{List, [], _∷_}
 use lib.ListN.{length, getD, set, take, drop, length-set, length-take, length-drop}
-use lib.Seq.{ext-getD}
 use Rattle.memory.specs.Words.{word, words, putWord}
 use Rattle.memory.proofs.KeepsLaws.{same-part}
 
@@ -65,16 +64,6 @@ pub put-length : (s : List ℕ) (i v : ℕ) → length (putWord s i v) ≡ lengt
 unfolding putWord
 put-length s i v = simp length-set
 
-pub zero-word : (s : List ℕ) (i : ℕ) → 4 * i + 4 ≤ length s → ((j : ℕ) → 4 * i ≤ j → j < 4 * i + 4 → getD s j 0 ≡ 0) → getD (words s) i 0 ≡ 0
-zero-word s i h z =
-    rw (
-      get-word s i h,
-      z (4 * i) (omega arith) (omega arith),
-      z (4 * i + 1) (omega arith) (omega arith),
-      z (4 * i + 2) (omega arith) (omega arith),
-      z (4 * i + 3) (omega arith) (omega arith),
-    ) refl
-
 -- equal words are equal bytes
 word-bytes : {a b c d a′ b′ c′ d′ : ℕ} → b < 256 → c < 256 → d < 256 → b′ < 256 → c′ < 256 → d′ < 256 → word a b c d ≡ word a′ b′ c′ d′
     → (a ≡ a′) × (b ≡ b′) × (c ≡ c′) × (d ≡ d′)
@@ -103,6 +92,3 @@ module _ (s t : List ℕ) (bs : (i : ℕ) → getD s i 0 < 256) (bt : (i : ℕ) 
   same-bytes a e hs ht w =
       same-part s t (4 * a) (4 * (e - a)) (simp (length-take, length-drop) (omega arith))
       (λ j l h. same-byte j (omega arith) (omega arith) (w (j / 4) (omega arith) (omega arith)))
-
-  pub words-same : length s ≡ length t → length s % 4 ≡ 0 → words s ≡ words t → s ≡ t
-  words-same l m w = ext-getD 0 s t l (λ j h. same-byte j (omega arith) (omega arith) (ap (λ (x : List ℕ). getD x (j / 4) 0) w))

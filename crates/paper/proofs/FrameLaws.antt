@@ -252,3 +252,12 @@ shape-encode (register t n k ps) v =
 shape-encode (unregister t n) v =
     accepts 4 _ 0 _ [] (λ _. unregister t n) (lit≤ tt) (lit< tt, (v .0, (v .1, tt))) tt refl refl
     (λ s e i. check s unregisterHead 0 0 (λ _. unregister (at 1 e i) (at 2 e i)))
+
+-- no frame is longer than a message of as many pairs as one can have
+pub encode-most : (f : Frame) → Valid f → length (encode f) ≤ bytesFor (bitsOf messageHead countWidth mostPairs)
+unfolding encode total
+encode-most (message t s ps) v = let m = v .pairs .at-most in omega (arith, encode-length messageHead countWidth (1 ∷ t ∷ s ∷ (length ps - 1) ∷ []) ps)
+encode-most (tick t) v = omega (arith, encode-length tickHead 0 (2 ∷ t ∷ []) [])
+encode-most (register t n k ps) v =
+    let m = v .terms .at-most in omega (arith, encode-length registerHead weightWidth (3 ∷ t ∷ n ∷ (k - 1) ∷ (length ps - 1) ∷ []) ps)
+encode-most (unregister t n) v = omega (arith, encode-length unregisterHead 0 (4 ∷ t ∷ n ∷ []) [])

@@ -4,11 +4,12 @@ use Prim.Native.Nat.{ℕ, zero, suc, _+_, _*_, _≤_, _<_}
 use native.Mathlib.Nat.{zero-mul, le-refl, le-trans, lt-of-lt-of-le, mul-le-mul, mul-le-mul-left, mul-lt-mul-of-pos-right, mul-mul-mul-comm, not-le-of-lt, le-of-lt, not-suc-le-zero, mul-pos}
 use native.Mathlib.Omega.{arith}
 use mathlib.Core.Path.{_≡_, refl, sym, ap, _∙_}
+use mathlib.Core.Logic.{_↔_}
 use mathlib.Core.Bool.{Bool, true, false, cond, true≢false}
 use mathlib.Core.List.{List, [], _∷_}
 use lib.ListN.{length}
 use lib.Dec.{eqb, leb}
-use borrow.Author.Tests.{leb-true, leb-false, le-leb, ne-eqb}
+use borrow.Author.Tests.{leb-true, leb-false, le-leb, eqb-false, ne-eqb}
 use Rattle.paper.specs.Frame.{Pair, AllFit, countWidth, mostPairs}
 use Rattle.paper.specs.Impact.{top, meets, greatest, impact, squares, countOf, impactIn}
 
@@ -129,10 +130,11 @@ present-above-zero t ps a l h =
     let m : 1 * 1 * n ≤ (top * f) * (top * f) = rw (mul-mul-mul-comm top f top f) (omega arith) in
     rw (ne-eqb f 0 (λ e. omega arith)) (impact-greatest f n 1 h (count-in-squares t ps) m)
 
-pub impact-in-most : (ps : List Pair) (t : ℕ) → impactIn ps t ≤ top
+-- a message has a term exactly where its impact is above 0
+pub present-exactly : (t : ℕ) (ps : List Pair) → AllFit countWidth ps → length ps ≤ mostPairs → (0 < impactIn ps t) ↔ (0 < countOf t ps)
 unfolding impactIn
-impact-in-most ps t = go (eqb (countOf t ps) 0)
+present-exactly t ps a l = (go (eqb (countOf t ps) 0) refl, present-above-zero t ps a l)
   where
-    go : (b : Bool) → cond b 0 (impact (countOf t ps) (squares ps)) ≤ top
-    go true = omega arith
-    go false = impact-most (countOf t ps) (squares ps)
+    go : (b : Bool) → eqb (countOf t ps) 0 ≡ b → 0 < cond b 0 (impact (countOf t ps) (squares ps)) → 0 < countOf t ps
+    go true e h = absurd (omega arith)
+    go false e h = let n = eqb-false (countOf t ps) 0 e in omega arith

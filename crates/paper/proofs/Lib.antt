@@ -6,5 +6,6 @@ pub mod LogLaws
 pub mod SortLaws
 pub mod RankLaws
 pub mod ThresholdLaws
+pub mod MarkLaws
 pub mod FrameLaws
 pub mod WriteLaws

@@ -230,7 +230,7 @@ after-sound needed log c sound = go (lent (c .state) (c .output) needed)
     go true = shaped (eqb (judgeShape log (shape (c .bytes))) 0) refl
     go false = sound
 
--- whatever is called, the log stays sound
+-- whatever is called, the log stays sound: by serial every message in force is known, as demand 3 compares them
 pub replay-sound : (needed : ℕ) (log : Log) (cs : List Call) → Sound log → Sound (replay needed log cs)
 unfolding replay
 replay-sound needed log [] sound = sound

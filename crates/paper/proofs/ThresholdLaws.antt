@@ -1,11 +1,12 @@
 -- Why thresholds are enough: candidates give the whole ranking, and a query that a change of the window doesn't reach stays settled.
 -- Assumes nothing.
-use Prim.Native.Nat.{ℕ, suc, _*_, _-_, _≤_, _<_}
+use Prim.Native.Nat.{ℕ, zero, suc, _*_, _-_, _≤_, _<_}
 use native.Mathlib.Nat.{eq-or-lt-of-le, mul-le-mul-left, mul-zero}
 use native.Mathlib.Omega.{arith}
 use mathlib.Core.Path.{_≡_, refl, sym, ap, _∙_, subst}
+use mathlib.Core.Bool as Bools
 use mathlib.Core.Bool.{Bool, true, false, cond, false≢true}
-use mathlib.Core.Logic.{_⊎_, inl, inr, ⊎-elim}
+use mathlib.Core.Logic.{_⊎_, inl, inr, ⊎-elim, _↔_}
 use mathlib.Core.List.{List, [], _∷_, _++_, map, append-nil, cons≢nil}
 use lib.ListN.{length, getD, take}
 use lib.Dec.{ltb}
@@ -16,7 +17,7 @@ use Rattle.paper.specs.Impact.{impactIn, score}
 use Rattle.paper.specs.Order.{In}
 use Rattle.paper.specs.Sort.{select, sort}
 use Rattle.paper.specs.Rank.{Query, Entry, ahead, entry, scoring, entries, ranking, lines, serials}
-use Rattle.paper.specs.Threshold.{termAt, thresholdSum, exceeds, candidates, reached, lastScore, Tight, Kept, Settled}
+use Rattle.paper.specs.Threshold.{termAt, thresholdSum, Exceeds, exceeds, candidates, reached, lastScore, Tight, Kept, Settled}
 use Rattle.paper.proofs.Tests.{or-false, or-true}
 use Rattle.paper.proofs.SortLaws.{select-append, select-all, select-none, select-in, select-take, select-select, select-map, count-sort, best}
 use Rattle.paper.proofs.RankLaws.{ranking-length, ranking-last}
@@ -40,8 +41,7 @@ above-exceeds qs hs ps n h = go (exceeds qs hs ps) refl
     go false e = absurd (omega (arith, score-below qs hs ps e n))
 
 -- a message that exceeds one is strictly above it in some term
-pub exceeds-strictly : (qs : List Pair) (hs : List ℕ) (ps : List Pair) → exceeds qs hs ps ≡ true
-    → (i : ℕ) × (i < length qs) × (getD hs i 0 < impactIn ps (termAt qs i))
+pub exceeds-strictly : (qs : List Pair) (hs : List ℕ) (ps : List Pair) → exceeds qs hs ps ≡ true → Exceeds qs hs ps
 unfolding exceeds termAt
 exceeds-strictly [] hs ps e = absurd (false≢true e)
 exceeds-strictly (q ∷ qs) [] ps e = absurd (false≢true e)
@@ -50,6 +50,39 @@ exceeds-strictly (q ∷ qs) (h ∷ hs) ps e =
     (λ here. (0, omega arith, ltb-true h (impactIn ps (q .term)) here))
     (λ there. let r = exceeds-strictly qs hs ps there in (suc (r .0), omega (arith, r .1), r .2))
     (or-true (ltb h (impactIn ps (q .term))) (exceeds qs hs ps) e)
+
+strictly-exceeds : (qs : List Pair) (hs : List ℕ) (ps : List Pair) → length hs ≡ length qs → (i : ℕ) → i < length qs
+    → getD hs i 0 < impactIn ps (termAt qs i) → exceeds qs hs ps ≡ true
+unfolding exceeds termAt
+strictly-exceeds [] hs ps n i l h = absurd (omega arith)
+strictly-exceeds (q ∷ qs) [] ps n i l h = absurd (omega arith)
+strictly-exceeds (q ∷ qs) (x ∷ hs) ps n zero l h = rw (lt-ltb x (impactIn ps (q .term)) h)
+strictly-exceeds (q ∷ qs) (x ∷ hs) ps n (suc i) l h =
+    rw (strictly-exceeds qs hs ps (omega arith) i (omega arith) h) (Bools.or-true (ltb x (impactIn ps (q .term))))
+
+-- a message exceeds thresholds exactly where it is strictly above one of them
+pub exceeds-exactly : (qs : List Pair) (hs : List ℕ) (ps : List Pair) → length hs ≡ length qs → (exceeds qs hs ps ≡ true) ↔ Exceeds qs hs ps
+exceeds-exactly qs hs ps n = (exceeds-strictly qs hs ps, λ x. strictly-exceeds qs hs ps n (x .0) (x .1) (x .2))
+
+module _ (qs : List Pair) (hs : List ℕ) (n : length hs ≡ length qs) where
+  some-exceeds : (ms : List Message) → reached qs hs ms ≡ true → (m : Message) × In m ms × Exceeds qs hs (m .pairs)
+  unfolding reached
+  some-exceeds [] e = absurd (false≢true e)
+  some-exceeds (m ∷ ms) e =
+      ⊎-elim
+      (λ here. (m, inl refl, exceeds-strictly qs hs (m .pairs) here))
+      (λ there. let r = some-exceeds ms there in (r .0, inr (r .1), r .2))
+      (or-true (exceeds qs hs (m .pairs)) (reached qs hs ms) e)
+
+  one-reaches : (ms : List Message) (m : Message) → In m ms → Exceeds qs hs (m .pairs) → reached qs hs ms ≡ true
+  unfolding reached
+  one-reaches [] m i x = absurd i
+  one-reaches (y ∷ ms) m (inl e) x = rw (exceeds-exactly qs hs (y .pairs) n .1 (subst (λ (m : Message). Exceeds qs hs (m .pairs)) e x))
+  one-reaches (y ∷ ms) m (inr i) x = rw (one-reaches ms m i x) (Bools.or-true (exceeds qs hs (y .pairs)))
+
+  -- a query is reached exactly where one of the messages is strictly above one of its thresholds
+  pub reached-exactly : (ms : List Message) → (reached qs hs ms ≡ true) ↔ ((m : Message) × In m ms × Exceeds qs hs (m .pairs))
+  reached-exactly ms = (some-exceeds ms, λ x. one-reaches ms (x .0) (x .1) (x .2))
 
 pub sum-zero : (qs : List Pair) (hs : List ℕ) → ((i : ℕ) → getD hs i 0 ≡ 0) → thresholdSum qs hs ≡ 0
 unfolding thresholdSum

@@ -1,12 +1,12 @@
--- Laws of the window over messages whose times never fall: what is in force is a suffix of what was accepted, and as the clock moves on and
--- messages are added a prefix of it leaves. Assumes nothing.
+-- Laws of the window over messages whose times never fall: no more than N are in force, and as the clock moves on and messages are added the
+-- first of them leave. Assumes nothing.
 use Prim.Native.Nat.{ℕ, suc, _+_, _-_, _≤_, _<_}
 use native.Mathlib.Nat.{add-zero}
 use native.Mathlib.Omega.{arith}
-use mathlib.Core.Path.{_≡_, refl, sym, ap, ap₂, _∙_}
+use mathlib.Core.Path.{_≡_, refl, ap, ap₂, _∙_}
 use mathlib.Core.Bool.{Bool, true, false, cond, not, _&&_, and-false}
 use mathlib.Core.List.{List, [], _∷_, _++_}
-use lib.ListN.{length, drop, length-append}
+use lib.ListN.{length, length-append}
 use lib.Dec.{leb, ltb}
 use borrow.Author.Tests.{lt-ltb, ltb-true, lt-leb, leb-false, not-true}
 use Rattle.paper.proofs.Tests.{and-true}
@@ -69,18 +69,15 @@ module _ (N T : ℕ) where
         none-departs t t′ more x l (omega arith) ht (f .1),
       )
 
-  -- in force is a suffix of the accepted messages
-  pub in-force-suffix : (t c : ℕ) (l : List Message) → Chronological c l → (j : ℕ) × (inForce N T t l ≡ drop j l)
+  pub in-force-most : (t : ℕ) (l : List Message) → (length (inForce N T t l) ≤ length l) × (length (inForce N T t l) ≤ N)
   unfolding inForce
-  in-force-suffix t c [] o = (0, refl)
-  in-force-suffix t c (m ∷ l) o = go (standing N T t (length l) m) refl (in-force-suffix t c l (o .2))
+  in-force-most t [] = (omega arith, omega arith)
+  in-force-most t (m ∷ l) = go (standing N T t (length l) m) refl (in-force-most t l)
     where
-      go : (b : Bool) → standing N T t (length l) m ≡ b → (j : ℕ) × (inForce N T t l ≡ drop j l)
-          → (j : ℕ) × (cond b (m ∷ inForce N T t l) (inForce N T t l) ≡ drop j (m ∷ l))
-      go true e ih =
-          let p = stands t (length l) m e in
-          (0, ap (λ (r : List Message). m ∷ r) (sym (staying-none t l) ∙ all-stay t 0 (m .time) l (omega arith) (omega arith) (o .1)))
-      go false e ih = (suc (ih .0), ih .1)
+      go : (b : Bool) → standing N T t (length l) m ≡ b → (length (inForce N T t l) ≤ length l) × (length (inForce N T t l) ≤ N)
+          → (length (cond b (m ∷ inForce N T t l) (inForce N T t l)) ≤ suc (length l)) × (length (cond b (m ∷ inForce N T t l) (inForce N T t l)) ≤ N)
+      go true e ih = let p = stands t (length l) m e in (omega arith, omega arith)
+      go false e ih = (omega arith, omega arith)
 
   -- what was in force is what departs and then what stays
   pub departing-staying : (t t′ more c : ℕ) (l : List Message) → Chronological c l → t ≤ t′ → inForce N T t l ≡ departing N T t t′ more l ++ staying t′ more l

@@ -35,7 +35,7 @@ ruleset tests = (both, lt-ltb, le-leb)
 
 -- ---- pairs
 
-length-side : (n : ℕ) (ts us : List ℕ) → n ≤ length ts → n ≤ length us → length (side-by-side n ts us) ≡ n
+pub length-side : (n : ℕ) (ts us : List ℕ) → n ≤ length ts → n ≤ length us → length (side-by-side n ts us) ≡ n
 unfolding side-by-side
 length-side zero ts us h k = refl
 length-side (suc n) [] us h k = absurd (not-suc-le-zero h)

@@ -1,17 +1,20 @@
 -- Demand 3, stated over what is kept of each query; document 01, "Replies" and "The paper log". Assumes nothing.
-use Prim.Native.Nat.{ℕ, zero, suc, _+_, _^_, _<_}
+use Prim.Native.Nat.{ℕ, zero, suc, _+_, _/_, _^_, _<_}
 use mathlib.Core.Path.{_≡_}
-use mathlib.Core.Bool.{Bool, false, cond, _||_}
-use mathlib.Core.List.{List, _++_}
+use mathlib.Core.Logic.{_↔_}
+use mathlib.Core.Bool.{Bool, true, false, cond, _||_}
+use mathlib.Core.List.{List, [], _++_}
 use mathlib.Core.Option.{Option, none, some}
 use lib.Dec.{eqb}
+use Rattle.wire.specs.Bits.{odd}
 use Rattle.paper.specs.Frame.{Frame, Shape, shape}
 use Rattle.paper.specs.Frame.Frame.{message, tick, register, unregister}
 use Rattle.paper.specs.Frame.Shape.{refused, accepted}
 use Rattle.paper.specs.Window.{Message}
 use Rattle.paper.specs.Rank.{Query}
-use Rattle.paper.specs.Threshold.{Kept, Settled, reached}
-use Rattle.paper.specs.Log.{Log, Call, numbers, queryAt, inForceNow, arrivals, departs, judge, departures}
+use Rattle.paper.specs.Order.{In}
+use Rattle.paper.specs.Threshold.{Kept, Settled, reached, Exceeds}
+use Rattle.paper.specs.Log.{Log, Call, numbers, queryAt, inForceNow, arrivals, departs, judge, after, departures}
 
 -- what an engine keeps: for each number nothing, or what it keeps of the query
 abbrev pub Keeping : Type 0
@@ -82,8 +85,25 @@ markedShape log kept (accepted f) n = marked log kept f n
 unfoldable pub markedBy : ℕ → Log → Keeping → Call → ℕ → Bool
 markedBy needed log kept c n = cond (eqb (judge needed log c) 0) (markedShape log kept (shape (c .bytes)) n) false
 
--- One call, from what was kept before it to what is kept after it: the reply is the log's, its marks by the thresholds before the frame;
--- "unmarked, its thresholds, candidates and list are as they were".
+-- the messages that depart or arrive with a call, none where it is refused
+abbrev pub movedShape : Log → Shape → List Message
+movedShape log (refused r) = []
+movedShape log (accepted f) = departs log f ++ arrivals f
+
+unfoldable pub moved : ℕ → Log → Call → List Message
+moved needed log c = cond (eqb (judge needed log c) 0) (movedShape log (shape (c .bytes))) []
+
+-- a message that has, in one of a query's terms, an impact above the threshold kept there
+abbrev pub ExceedsKept : Query → Option Kept → Message → Type 0
+ExceedsKept q none m = ⊥
+ExceedsKept q (some x) m = Exceeds (q .terms) (x .thresholds) (m .pairs)
+
+-- One call, from what was kept before it to what is kept after it: the reply is the log's, its marks by the thresholds before the frame. `marked`
+-- says of its bits: "A query registered before and after the last frame is marked by it exactly when an arriving or departing message has, in one
+-- of its terms, an impact above the threshold it had there before that frame"; `unmarked`: "unmarked, its thresholds, candidates and list are as
+-- they were".
 pub record Answered (needed : ℕ) (log : Log) (kept : Keeping) (c : Call) (r : Reply) (kept′ : Keeping) : Type 0 where
   pub reply : r ≡ replyTo needed log kept c
+  pub marked : (n : ℕ) (q q′ : Query) → n < numbers → queryAt log n ≡ some q → queryAt (after needed log c) n ≡ some q′
+      → (odd (r .marks / 2 ^ n) ≡ true) ↔ ((m : Message) × In m (moved needed log c) × ExceedsKept q (kept n) m)
   pub unmarked : (n : ℕ) → n < numbers → markedBy needed log kept c n ≡ false → kept′ n ≡ kept n

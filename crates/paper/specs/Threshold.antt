@@ -46,6 +46,10 @@ termAt qs i = getD qs i (record { term = 0; amount = 0 }) .term
 unfoldable pub weightAt : List Pair → ℕ → ℕ
 weightAt qs i = getD qs i (record { term = 0; amount = 0 }) .amount
 
+-- "an impact above its threshold in one of its terms", of a message with these pairs: the term by its place
+abbrev pub Exceeds : List Pair → List ℕ → List Pair → Type 0
+Exceeds qs hs ps = (i : ℕ) × (i < length qs) × (getD hs i 0 < impactIn ps (termAt qs i))
+
 -- "the threshold sum is strictly below the k-th score, and adding one to any threshold below 1,000 would bring the sum to that score or over"
 pub record Tight (qs : List Pair) (hs : List ℕ) (kth : ℕ) : Type 0 where
   pub safe : thresholdSum qs hs < kth

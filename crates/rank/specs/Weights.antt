@@ -6,8 +6,7 @@ use mathlib.Core.Bool.{Bool, false, _||_}
 use mathlib.Core.List.{List, [], _∷_}
 use lib.ListN.{getD}
 use lib.Dec.{ltb}
-use Rattle.paper.specs.Frame.{Pair}
-use Rattle.paper.specs.Impact.{top, impactIn}
+use Rattle.paper.specs.Impact.{top}
 
 -- weights have four bits, and stored impacts and thresholds fourteen
 abbrev pub weightLimit : ℕ
@@ -33,10 +32,6 @@ exceeding zero hs vs = false
 exceeding (suc n) [] vs = false
 exceeding (suc n) (h ∷ hs) [] = false
 exceeding (suc n) (h ∷ hs) (v ∷ vs) = ltb h v || exceeding n hs vs
-
--- the first n values are a message's impacts in the terms
-abbrev pub Impacts : ℕ → List ℕ → List Pair → List ℕ → Type 0
-Impacts n ts ps vs = (i : ℕ) → i < n → getD vs i 0 ≡ impactIn ps (getD ts i 0)
 
 -- ---- raising
 

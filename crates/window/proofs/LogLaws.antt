@@ -4,9 +4,8 @@ use native.Mathlib.Nat.{add-zero}
 use native.Mathlib.Omega.{arith}
 use mathlib.Core.Path.{_≡_, refl, sym, ap, ap₂, _∙_}
 use mathlib.Core.Bool.{Bool, true, false, cond, not, _&&_, _||_}
-use mathlib.Core.List.{List, [], _∷_, _++_, map, map-append}
-use lib.ListN.{length, take, drop, length-map, length-append}
-use lib.Seq.{take-at}
+use mathlib.Core.List.{List, [], _∷_, _++_, map}
+use lib.ListN.{length, drop, length-map}
 use lib.Dec.{eqb, ltb}
 use borrow.Author.Tests.{ltb-true, ltb-false}
 use Rattle.paper.specs.Window.{Message, aged, standing, inForce, departing}
@@ -15,8 +14,8 @@ use Rattle.paper.specs.Sound.{Chronological, Sound}
 use Rattle.paper.proofs.WindowLaws.{stands, standing-true, staying, staying-none, all-stay, departing-staying}
 use Rattle.window.specs.Layout.{slots}
 use Rattle.window.specs.Slot.{slot, stored, ring, window, next, dropPast, holdsSerial}
-use Rattle.window.specs.Cursor.{Moved, Advanced, Roomy}
-use Rattle.window.proofs.RingLaws.{ring-length, ring-step, moved-parts}
+use Rattle.window.specs.Cursor.{Advanced, Roomy}
+use Rattle.window.proofs.RingLaws.{ring-length, ring-step}
 
 pub holds-serial : (s : ℕ) (ms : List Message) → holdsSerial s (map stored ms) ≡ hasSerial s ms
 unfolding holdsSerial hasSerial stored
@@ -141,24 +140,3 @@ roomy-shows {o} {n} {clock} {clock′} {o′} {n′} w log t sound low e r = go 
         ∙ ap (drop 1) e
         ∙ drop-map (inForceAt log t)
         ∙ ap (map stored) (sym (room .1 (omega arith)))
-
--- the slots that left hold the messages that left
-pub moved-gone : {o n o′ n′ : ℕ} (w : List ℕ) (gone stay : List Message) → o < slots → Moved o n o′ n′ → window w o n ≡ map stored (gone ++ stay)
-    → window w o′ n′ ≡ map stored stay → (n - n′ ≡ length gone) × (window w o (n - n′) ≡ map stored gone)
-moved-gone {o} {n} {o′} {n′} w gone stay low m e f = (count, cut)
-  where
-    count : n - n′ ≡ length gone
-    count =
-        let a = window-count w o n (gone ++ stay) e in
-        let b = window-count w o′ n′ stay f in
-        let l = length-append gone stay in
-        omega arith
-
-    parts : window w o (n - n′) ++ window w o′ n′ ≡ map stored gone ++ map stored stay
-    parts = sym (map-append (slot w) (ring o (n - n′)) (ring o′ n′)) ∙ ap (map (slot w)) (sym (moved-parts low m)) ∙ e ∙ map-append stored gone stay
-
-    cut : window w o (n - n′) ≡ map stored gone
-    cut =
-        sym (take-at (window w o (n - n′)) (window w o′ n′) (n - n′) (length-map (ring o (n - n′)) (slot w) ∙ ring-length o (n - n′)))
-        ∙ ap (take (n - n′)) parts
-        ∙ take-at (map stored gone) (map stored stay) (n - n′) (length-map gone stored ∙ sym count)

@@ -55,10 +55,6 @@ ring-at o (suc n) (suc i) h k = let ih = ring-at (next o) n i (omega arith) (ome
 pub ring-below : (o n i : ℕ) → o < slots → i < n → getD (ring o n) i 0 < slots
 ring-below o n i h k = let e = ring-at o n i h k in omega arith
 
--- the slot after the window isn't in it
-pub ring-fresh : (o n i : ℕ) → o < slots → n < slots → i < n → getD (ring o n) i 0 ≡ (o + n) % slots → ⊥
-ring-fresh o n i h k l e = let f = ring-at o n i h l in omega arith
-
 -- ---- a window that moved
 
 module _ {o n o′ n′ : ℕ} (low : o < slots) (moved : Moved o n o′ n′) where

@@ -1,15 +1,12 @@
 -- Laws of slots: what a slot and a window read of the memory, and a message written into a slot. Assumes nothing.
-use Prim.Native.Nat.{ℕ, zero, suc, _+_, _%_, _^_, _≤_, _<_}
+use Prim.Native.Nat.{ℕ, zero, suc, _+_, _^_, _≤_, _<_}
 use native.Mathlib.Nat.{not-suc-le-zero, min-le-right, min-eq-left}
 use native.Mathlib.Omega.{arith}
 use mathlib.Core.Path.{_≡_, refl, ap, ap₂, _∙_}
 use mathlib.Core.Logic.{_⊎_, inl, inr, ⊎-elim}
-use mathlib.Core.Bool.{Bool, true, false}
-use mathlib.Core.List.{List, [], _∷_, _++_, map, map-append}
+use mathlib.Core.List.{List, [], _∷_, map}
 use lib.ListN.{length, getD, set, length-set}
 use lib.Seq.{getD-set-same, getD-set-other}
-use lib.Dec.{ltb}
-use borrow.Author.Tests.{ltb-true, ltb-false}
 use Rattle.paper.specs.Frame.{mostPairs}
 use Rattle.paper.specs.Impact.{impact, squares}
 use Rattle.paper.specs.Window.{Message}
@@ -22,9 +19,9 @@ use Rattle.memory.proofs.KeepsLaws.{keeps-trans, keeps-wider, keeps-set, keeps-
 use Rattle.impact.specs.Cell.{packed, cellOf, cellsOf, squaresOf}
 use Rattle.impact.proofs.CellLaws.{squares-side}
 use Rattle.window.specs.Layout.{slots, slotWords, slotAt, cellsAt, recordAt}
-use Rattle.window.specs.Slot.{Slot, slot, sizeAt, stored, ring, window}
+use Rattle.window.specs.Slot.{slot, sizeAt, stored, ring, window}
 use Rattle.window.specs.Cursor.{Written}
-use Rattle.window.proofs.RingLaws.{ring-length, ring-last, ring-below, ring-fresh}
+use Rattle.window.proofs.RingLaws.{ring-length, ring-below}
 
 -- ---- what a slot and a window read
 
@@ -56,28 +53,6 @@ pub window-kept : {a e : ℕ} {w w′ : List ℕ} → Keeps a e w w′ → (reco
 window-kept {a} {e} {w} {w′} kept d o n low =
     window-agree w w′ o n
     (λ i h. let b = ring-below o n i low h in slot-kept kept (getD (ring o n) i 0) (⊎-elim (λ l. inl (omega arith)) (λ l. inr (omega arith)) d))
-
--- two slots lie side by side
-apart : (j k : ℕ) → (k ≡ j → ⊥) → (slotAt k + slotWords ≤ slotAt j) ⊎ (slotAt j + slotWords ≤ slotAt k)
-apart j k ne = go (ltb k j) refl
-  where
-    go : (b : Bool) → ltb k j ≡ b → (slotAt k + slotWords ≤ slotAt j) ⊎ (slotAt j + slotWords ≤ slotAt k)
-    go true e = let h = ltb-true k j e in inl (omega arith)
-    go false e = let h = ltb-false k j e in inr (omega arith)
-
--- a message written into the slot after a window
-module _ {o n : ℕ} {m : Message} {w w′ : List ℕ} (low : o < slots) (room : n < slots) (written : Written ((o + n) % slots) m w w′) where
-  -- the window stays
-  pub window-beside : window w′ o n ≡ window w o n
-  window-beside =
-      window-agree w w′ o n (λ i h. slot-kept (written .keeps) (getD (ring o n) i 0) (apart ((o + n) % slots) (getD (ring o n) i 0) (ring-fresh o n i low room h)))
-
-  -- and the message is its next
-  pub window-joined : window w′ o (suc n) ≡ window w o n ++ (stored m ∷ [])
-  window-joined =
-      ap (map (slot w′)) (ring-last o n low)
-      ∙ map-append (slot w′) (ring o n) (((o + n) % slots) ∷ [])
-      ∙ ap₂ (λ (l : List Slot) (x : Slot). l ++ (x ∷ [])) window-beside (written .holds)
 
 -- ---- a message written
 

@@ -16,7 +16,7 @@ use Rattle.memory.specs.Words.{words}
 use Rattle.impact.proofs.Merge.{cells-length, cell-at}
 use Rattle.window.specs.Layout.{slots, slotAt, cellsAt}
 use Rattle.window.specs.Slot.{slot, sizeAt}
-use Rattle.window.specs.Terms.{inSet, termOf}
+use Rattle.window.specs.Terms.{inSet}
 
 module _ (s : List ℕ) (j : ℕ) (long : length s ≡ stateLength) (below : j < slots) where
   pub size-most : sizeAt (words s) j ≤ mostPairs

@@ -21,18 +21,6 @@ loop-holds c = (omega arith, omega arith, start)
 returns : tie.Need-returns Inv-loop μ-loop
 returns c = finish (c .before .before .loop .inv .2) (omega arith) (λ more. absurd (omega arith))
 
-add-get : tie.Need-add-get Inv-loop μ-loop
-add-get c = search needs
-
-get-requires : tie.Need-get-requires Inv-loop μ-loop
-get-requires c κs = search needs
-
-mul-wants : tie.Need-mul-wants Inv-loop μ-loop
-mul-wants c = search needs
-
-array-read-wants : tie.Need-array-read-wants Inv-loop μ-loop
-array-read-wants c = search needs
-
 -- what was read is the cell at i
 turn : (c : tie.After-get Inv-loop μ-loop)
     → let at-loop = c .before .before .before in
@@ -46,44 +34,17 @@ turn c =
     let e = cell-at (a .s .now) (a .at) (a .m) (at-loop .loop .i) (omega arith) in
     (omega arith, omega arith)
 
-add-i : tie.Need-add-i Inv-loop μ-loop
-add-i c = search needs
-
-loop-less : tie.Need-loop-less Inv-loop μ-loop
-loop-less c = search needs
-
 loop-again : tie.Need-loop-again Inv-loop μ-loop
 loop-again c =
     let w = c .before .before .before .before .loop .inv .2 in
     let f = turn (c .before) in
     (omega arith, omega arith, skip-cell w (omega arith) (omega arith) (omega arith))
 
-add-q : tie.Need-add-q Inv-loop μ-loop
-add-q c = search needs
-
-loop-less-2 : tie.Need-loop-less-2 Inv-loop μ-loop
-loop-less-2 c = search needs
-
 loop-again-2 : tie.Need-loop-again-2 Inv-loop μ-loop
 loop-again-2 c =
     let w = c .before .before .before .before .before .loop .inv .2 in
     let f = turn (c .before .before) in
     (omega arith, omega arith, skip-term w (omega arith) (omega arith) (omega arith))
-
-mul-found : tie.Need-mul-found Inv-loop μ-loop
-mul-found c = search needs
-
-array-write-found : tie.Need-array-write-found Inv-loop μ-loop
-array-write-found c = search needs
-
-add-i-2 : tie.Need-add-i-2 Inv-loop μ-loop
-add-i-2 c = search needs
-
-add-q-2 : tie.Need-add-q-2 Inv-loop μ-loop
-add-q-2 c = search needs
-
-loop-less-3 : tie.Need-loop-less-3 Inv-loop μ-loop
-loop-less-3 c = search needs
 
 loop-again-3 : tie.Need-loop-again-3 Inv-loop μ-loop
 loop-again-3 c =
@@ -105,20 +66,20 @@ impacts-spec =
     μ-loop
     loop-holds
     returns
-    add-get
-    get-requires
-    mul-wants
-    array-read-wants
-    add-i
-    loop-less
+    (λ c. search needs)
+    (λ c κs. search needs)
+    (λ c. search needs)
+    (λ c. search needs)
+    (λ c. search needs)
+    (λ c. search needs)
     loop-again
-    add-q
-    loop-less-2
+    (λ c. search needs)
+    (λ c. search needs)
     loop-again-2
-    mul-found
-    array-write-found
-    add-i-2
-    add-q-2
-    loop-less-3
+    (λ c. search needs)
+    (λ c. search needs)
+    (λ c. search needs)
+    (λ c. search needs)
+    (λ c. search needs)
     loop-again-3
     returns-2)

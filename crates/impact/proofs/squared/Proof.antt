@@ -20,12 +20,6 @@ loop-holds : tie.Need-loop-holds Inv-loop μ-loop
 unfolding squaresOf
 loop-holds c = (omega arith, omega arith, omega arith)
 
-mul-f : tie.Need-mul-f Inv-loop μ-loop
-mul-f c = search needs
-
-array-read-f : tie.Need-array-read-f Inv-loop μ-loop
-array-read-f c = search needs
-
 -- a count and its square
 count-most : (c : tie.In-loop Inv-loop μ-loop) → let f = getD (c .before .before .args .t1) (c .before .loop .i) 0 in (f < 256) × (f * f ≤ 65025)
 count-most c = let h = c .before .before .pre .1 (c .before .loop .i) (omega arith) in (h, mul-le-mul {n₂ = 255} {m₂ = 255} (omega arith) (omega arith))
@@ -35,12 +29,6 @@ mul-sum c = let h = count-most c in search needs
 
 add-sum : tie.Need-add-sum Inv-loop μ-loop
 add-sum c = let h = count-most c in search needs
-
-add-i : tie.Need-add-i Inv-loop μ-loop
-add-i c = search needs
-
-loop-less : tie.Need-loop-less Inv-loop μ-loop
-loop-less c = search needs
 
 loop-again : tie.Need-loop-again Inv-loop μ-loop
 loop-again c =
@@ -60,11 +48,11 @@ squared-spec =
     Inv-loop
     μ-loop
     loop-holds
-    mul-f
-    array-read-f
+    (λ c. search needs)
+    (λ c. search needs)
     mul-sum
     add-sum
-    add-i
-    loop-less
+    (λ c. search needs)
+    (λ c. search needs)
     loop-again
     returns)

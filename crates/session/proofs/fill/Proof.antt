@@ -1,10 +1,8 @@
 -- `fill` meets its contract. Assumes nothing.
-use Prim.Native.Nat.{ℕ, _≤_}
 use mathlib.Core.Path.{sym}
-use mathlib.Core.List.{List, _++_}
 use native.Mathlib.Omega.{arith}
 use borrow.Author.Needs.{needs}
-use lib.ListN.{length, length-append}
+use lib.ListN.{length-append}
 use lib.Seq.{length-take-le}
 use Rattle.session.proofs.fill.Statement.{statement}
 use Rattle.session.proofs.fill.Tie as tie

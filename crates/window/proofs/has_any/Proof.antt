@@ -1,7 +1,7 @@
 -- `has_any` meets its contract. Assumes nothing.
 use Prim.Native.Nat.{ℕ, _-_, _/_, _<_, _≤_}
 use native.Mathlib.Omega.{arith}
-use mathlib.Core.Path.{_≡_, sym, ap, _∙_}
+use mathlib.Core.Path.{_≡_, sym, ap}
 use mathlib.Core.Bool.{false, true≢false, false≢true}
 use lib.ListN.{length}
 use borrow.Author.Count.{below-more}

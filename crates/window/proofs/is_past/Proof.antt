@@ -18,8 +18,5 @@ returns c =
     let e : 0 ≡ a .clock - a .time = omega arith in
     none-left (a .life) ∙ ap (leb (a .life)) e
 
-returns-2 : tie.Need-returns-2
-returns-2 c = search needs
-
 pub is-past-spec : {M : Type 1} → statement M
-is-past-spec = tie.close (tie.spec returns returns-2)
+is-past-spec = tie.close (tie.spec returns (λ c. search needs))

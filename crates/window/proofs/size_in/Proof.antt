@@ -1,8 +1,7 @@
 -- `size_in` meets its contract. Assumes nothing.
 use native.Mathlib.Nat.{min-eq-left, min-eq-right}
 use native.Mathlib.Omega.{arith}
-use mathlib.Core.Path.{_≡_, sym, _∙_}
-use lib.ListN.{getD}
+use mathlib.Core.Path.{sym, _∙_}
 use borrow.Author.Needs.{needs}
 use Rattle.window.proofs.size_in.Statement.{statement}
 use Rattle.window.proofs.size_in.Tie as tie

@@ -13,29 +13,11 @@ Inv-loop count squares reach limit n low₀ high₀ low high = Between count n l
 abbrev μ-loop : tie.MeasureT-loop
 μ-loop count squares reach limit n low₀ high₀ low high = high - low
 
-cast-reach : tie.Need-cast-reach Inv-loop μ-loop
-cast-reach c = search needs
-
-mul-reach : tie.Need-mul-reach Inv-loop μ-loop
-mul-reach c = search needs
-
 mul-limit : tie.Need-mul-limit Inv-loop μ-loop
 mul-limit c = let h : 1000 * c .args .count * (1000 * c .args .count) ≤ 255000 * 255000 = mul-le-mul {n₂ = 255000} {m₂ = 255000} (omega arith) (omega arith) in omega arith
 
-add-high : tie.Need-add-high Inv-loop μ-loop
-add-high c = search needs
-
 loop-holds : tie.Need-loop-holds Inv-loop μ-loop
 loop-holds c = start (c .args .count) (c .args .squares)
-
-sub-loop : tie.Need-sub-loop Inv-loop μ-loop
-sub-loop c = search needs
-
-add-mid : tie.Need-add-mid Inv-loop μ-loop
-add-mid c = search needs
-
-cast-m : tie.Need-cast-m Inv-loop μ-loop
-cast-m c = search needs
 
 mul-if1 : tie.Need-mul-if1 Inv-loop μ-loop
 mul-if1 c =
@@ -51,14 +33,8 @@ mul-if1-2 c =
     mul-le-mul {n₂ = 1001 * 1001} {m₂ = 4294967295} (mul-le-mul {n₂ = 1001} {m₂ = 1001} (omega arith) (omega arith)) (omega arith) in
     omega arith
 
-loop-less : tie.Need-loop-less Inv-loop μ-loop
-loop-less c = search needs
-
 loop-again : tie.Need-loop-again Inv-loop μ-loop
 loop-again c = lower _ _ _ _ _ (c .before .before .loop .inv) (omega arith) (omega arith) (omega arith)
-
-loop-less-2 : tie.Need-loop-less-2 Inv-loop μ-loop
-loop-less-2 c = search needs
 
 loop-again-2 : tie.Need-loop-again-2 Inv-loop μ-loop
 loop-again-2 c = upper _ _ _ _ _ (c .before .before .loop .inv) (omega arith) (omega arith) (omega arith)
@@ -72,18 +48,18 @@ of-spec =
     (tie.spec
     Inv-loop
     μ-loop
-    cast-reach
-    mul-reach
+    (λ c. search needs)
+    (λ c. search needs)
     mul-limit
-    add-high
+    (λ c. search needs)
     loop-holds
-    sub-loop
-    add-mid
-    cast-m
+    (λ c. search needs)
+    (λ c. search needs)
+    (λ c. search needs)
     mul-if1
     mul-if1-2
-    loop-less
+    (λ c. search needs)
     loop-again
-    loop-less-2
+    (λ c. search needs)
     loop-again-2
     returns)
