@@ -42,20 +42,12 @@ fn refused(number: u32) -> Reply
     }
 }
 
-// 2 to the q.
-fn mark(q: usize) -> u32
-    requires { ⌜ q < 32 ⌝ }
-    ensures { λ r. ⌜ r ≡ 2 ^ q ⌝ }
-{
-    1u32 << q
-}
-
 // Marks with that of q, which isn't among them.
 fn with_mark(marks: u32, q: usize) -> u32
     requires { ⌜ q < 32 ⌝ }
     ensures { λ r. ⌜ r ≡ (marks + 2 ^ q) % 2 ^ 32 ⌝ }
 {
-    ((marks as u64 + mark(q) as u64) % 4294967296) as u32
+    ((marks as u64 + wire::pow2(q) as u64) % 4294967296) as u32
 }
 
 // Whether N and T are within their ranges.
@@ -122,7 +114,7 @@ fn update_all(
     while q < 32 {
         if query::in_use(state, q) {
             if query::update(state, q, gone, departed, first, count, newest, &moved) {
-                marks += mark(q);
+                marks += wire::pow2(q);
             }
         }
         q += 1;

@@ -33,7 +33,7 @@ add-marks : tie.Need-add-marks Inv-loop μ-loop
 add-marks c =
     let l = c .before .before .before .before .before .before .before .before .before .before .before .loop in
     let h = marks-fit (l .q) (omega arith) (l .inv .4 .small) in
-    record { fits = rw (c .mark .ensures) h }
+    record { fits = rw (c .pow2 .ensures) h }
 
 loop-again : tie.Need-loop-again Inv-loop μ-loop
 loop-again c =
