@@ -18,7 +18,7 @@ impl Terms {
     }
 }
 
-/// What is looked up once of a message to be ranked: its list entry and its impacts in the query's terms.
+/// What a query asks of a message, looked up once: its list entry and its impacts in the query's terms.
 struct Looked {
     entry: Entry,
     impacts: [u32; 8],
@@ -40,12 +40,9 @@ struct Kept {
 }
 
 impl Kept {
-    fn exceed(&self, impacts: &[u32; 8]) -> bool {
-        (0..8).any(|i| impacts[i] > self.thresholds[i])
-    }
-
-    fn reaches<L: Look>(&self, m: &Message) -> bool {
-        self.exceed(&L::impacts(m, &self.query))
+    /// Whether the message exceeds a threshold; all eight are compared, without a branch.
+    fn is_exceeded(&self, l: &Looked) -> bool {
+        (0..8).fold(false, |found, i| found | (l.impacts[i] > self.thresholds[i]))
     }
 
     /// The last score of a full list.
@@ -79,7 +76,7 @@ impl Kept {
         }
         let mut candidates = std::mem::take(&mut self.candidates);
         candidates.clear();
-        candidates.extend(looked.iter().filter(|l| self.exceed(&l.impacts)).map(|l| l.entry.place));
+        candidates.extend(looked.iter().filter(|l| self.is_exceeded(l)).map(|l| l.entry.place));
         self.candidates = candidates;
     }
 
@@ -145,16 +142,17 @@ impl<L: Look> Upkeep for Eager<L> {
             if !terms.has_any(kept.query.terms()) {
                 continue;
             }
-            let above = newest.filter(|m| kept.reaches::<L>(m));
-            if above.is_none() && !w.departed.iter().any(|m| kept.reaches::<L>(m)) {
+            self.looked.clear();
+            self.looked.extend(w.departed.iter().chain(newest).map(|m| Looked::new::<L>(m, &kept.query)));
+            if !self.looked.iter().any(|l| kept.is_exceeded(l)) {
                 continue;
             }
             reached += 1;
             let gone = kept.candidates.iter().take_while(|p| **p < first).count();
             kept.candidates.drain(..gone);
-            kept.candidates.extend(above.map(|m| m.place));
-            let below = |last| w.departed.iter().chain(newest).all(|m| m.entry::<L>(&kept.query).score < last);
-            if !kept.last().is_some_and(below) {
+            kept.candidates.extend(self.looked.last().filter(|l| arrived && kept.is_exceeded(l)).map(|l| l.entry.place));
+            let stands = kept.last().is_some_and(|last| self.looked.iter().all(|l| l.entry.score < last));
+            if !stands {
                 kept.settle::<L>(w, first, &mut self.looked);
             }
         }

@@ -20,11 +20,11 @@ use workload::{Passage, Setting, SHARED};
 
 /// How many messages are measured, once the window is full, in how many parts: of each part the best round counts, as others may use the machine.
 const MESSAGES: usize = 4000;
-const PARTS: usize = 80;
+const PARTS: usize = 400;
 
 /// A round runs every method once; the slowest are left out of the later ones.
 const ROUNDS: usize = 15;
-const SLOW_ROUNDS: usize = 5;
+const SLOW_ROUNDS: usize = 6;
 
 struct Run {
     seconds: [f64; PARTS],
@@ -67,8 +67,10 @@ impl Best {
     }
 }
 
-/// The rivals in the table's order, each walking the terms and comparing them wide, with the rounds each is run in.
-const RIVALS: [(fn(&Passage) -> Run, usize); 6] = [
+type Rival = fn(&Passage) -> Run;
+
+/// The rivals in the table's order, each walking the terms and then comparing them wide, with the rounds each is run in.
+const RIVALS: [(Rival, usize); 6] = [
     (run::<Plain<Full<Walk>>>, SLOW_ROUNDS),
     (run::<Plain<Full<Wide>>>, SLOW_ROUNDS),
     (run::<Plain<Naive<Walk>>>, ROUNDS),
@@ -109,12 +111,7 @@ fn measured(setting: Setting) -> Row {
         }
     }
     let seconds = best.seconds();
-    Row {
-        setting,
-        messages_per_second: MESSAGES as f64 / seconds,
-        ratios: bests.map(|b| b.seconds() / seconds),
-        idle: idle as f64 / MESSAGES as f64,
-    }
+    Row { setting, messages_per_second: MESSAGES as f64 / seconds, ratios: bests.map(|b| b.seconds() / seconds), idle: idle as f64 / MESSAGES as f64 }
 }
 
 fn main() {

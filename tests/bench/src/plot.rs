@@ -4,7 +4,8 @@ use crate::workload::SHARED;
 use crate::Row;
 use std::fmt::Write;
 
-const NAMES: [&str; 6] = ["full re-rank, walk", "full re-rank, wide", "Naive, walk", "Naive, wide", "eager in plain Rust, walk", "eager in plain Rust, wide"];
+const NAMES: [&str; 6] =
+    ["full re-rank, walk", "full re-rank, wide", "Naive, walk", "Naive, wide", "eager in plain Rust, walk", "eager in plain Rust, wide"];
 const COLORS: [&str; 6] = ["#33638d", "#a9c4dd", "#b5541c", "#efc3a4", "#3a7d44", "#b4d8b8"];
 
 const WIDTH: f64 = 790.0;
@@ -17,13 +18,15 @@ const STEP: f64 = 320.0;
 /// Of a panel's height, at both ends, for the numbers at the bars.
 const MARGIN: f64 = 18.0;
 const BAR: f64 = 28.0;
+/// Of a number at a bar, so that no line of the scale runs through it.
+const HALO: &str = r##"text-anchor="middle" stroke="#fafafa" stroke-width="3" paint-order="stroke""##;
 
 fn text(out: &mut String, x: f64, y: f64, size: u32, more: &str, what: &str) {
-    writeln!(out, r##"<text x="{x:.1}" y="{y:.1}" font-size="{size}" {more}>{what}</text>"##).unwrap();
+    writeln!(out, r#"<text x="{x:.1}" y="{y:.1}" font-size="{size}" {more}>{what}</text>"#).unwrap();
 }
 
 fn line(out: &mut String, y: f64, color: &str, width: f64) {
-    writeln!(out, r##"<line x1="{LEFT}" x2="{RIGHT}" y1="{y:.1}" y2="{y:.1}" stroke="{color}" stroke-width="{width}"/>"##).unwrap();
+    writeln!(out, r#"<line x1="{LEFT}" x2="{RIGHT}" y1="{y:.1}" y2="{y:.1}" stroke="{color}" stroke-width="{width}"/>"#).unwrap();
 }
 
 /// Two digits, or as many as stand before the point.
@@ -40,7 +43,7 @@ fn legend(out: &mut String) {
     text(out, LEFT, 48.0, 12, "", "The rival's time over the proved engine's for the same frames; scale of powers of ten");
     for (i, (name, color)) in NAMES.iter().zip(COLORS).enumerate() {
         let (x, y) = (LEFT + 200.0 * (i / 2) as f64, 70.0 + 18.0 * (i % 2) as f64);
-        writeln!(out, r##"<rect x="{x:.1}" y="{:.1}" width="12" height="12" fill="{color}"/>"##, y - 10.0).unwrap();
+        writeln!(out, r#"<rect x="{x:.1}" y="{:.1}" width="12" height="12" fill="{color}"/>"#, y - 10.0).unwrap();
         text(out, x + 18.0, y, 12, "", name);
     }
 }
@@ -54,7 +57,9 @@ pub fn svg(rows: &[Row]) -> String {
     let panels: Vec<_> = SHARED.iter().filter(|(_, shared)| *shared != "some").collect();
     let height = TOP + STEP * panels.len() as f64;
 
-    let mut out = format!(r##"<svg xmlns="http://www.w3.org/2000/svg" viewBox="0 0 {WIDTH} {height}" font-family="DejaVu Sans, Arial, sans-serif" fill="#222">"##);
+    let mut out = format!(
+        r##"<svg xmlns="http://www.w3.org/2000/svg" viewBox="0 0 {WIDTH} {height}" font-family="DejaVu Sans, Arial, sans-serif" fill="#222">"##
+    );
     writeln!(out, "\n<rect width=\"100%\" height=\"100%\" fill=\"#fff\"/>").unwrap();
     legend(&mut out);
     for (panel, (terms, shared)) in panels.into_iter().enumerate() {
@@ -77,9 +82,10 @@ pub fn svg(rows: &[Row]) -> String {
             for (i, (ratio, color)) in row.ratios.iter().zip(COLORS).enumerate() {
                 let (x, y) = (middle + BAR * (i as f64 - 3.0), at(ratio.log10()));
                 let (from, to) = (y.min(one), y.max(one));
-                writeln!(out, r##"<rect x="{:.1}" y="{from:.1}" width="{}" height="{:.1}" fill="{color}"/>"##, x + 2.0, BAR - 4.0, to - from).unwrap();
+                let (left, width, height) = (x + 2.0, BAR - 4.0, to - from);
+                writeln!(out, r#"<rect x="{left:.1}" y="{from:.1}" width="{width}" height="{height:.1}" fill="{color}"/>"#).unwrap();
                 let beside = if *ratio < 1.0 { to + 12.0 } else { from - 4.0 };
-                text(&mut out, x + BAR / 2.0, beside, 11, r#"text-anchor="middle""#, &short(*ratio));
+                text(&mut out, x + BAR / 2.0, beside, 11, HALO, &short(*ratio));
             }
         }
         line(&mut out, one, "#222", 1.5);

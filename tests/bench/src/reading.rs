@@ -1,4 +1,5 @@
-//! The reading of a frame alone: the proved reader, through an engine whose clock is so far ahead that it refuses what it has read, and the plain one.
+//! The reading of a frame alone: the proved reader, through an engine whose clock is so far ahead that it refuses the frame by 7 once it is read,
+//! and the plain one.
 
 use crate::plain::{read, Method};
 use crate::proved::Proved;
@@ -34,7 +35,7 @@ pub fn print() {
         let (mut proved, mut plain) = (f64::MAX, f64::MAX);
         for _ in 0..ROUNDS {
             proved = proved.min(nanoseconds(|| assert_eq!(engine.frame(black_box(&bytes)), Err(7))));
-            plain = plain.min(nanoseconds(|| assert!(black_box(read(black_box(&bytes))).is_ok())));
+            plain = plain.min(nanoseconds(|| assert!(black_box(&read(black_box(&bytes))).is_ok())));
         }
         println!("{name:<19} {proved:>9.1} {plain:>8.1} {:>8.2}", plain / proved);
     }
