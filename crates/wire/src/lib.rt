@@ -68,7 +68,8 @@ pub fn pow2(k: usize) -> u32
     1u32 << k
 }
 
-fn lesser(a: usize, b: usize) -> usize
+// The lesser of two.
+pub fn lesser(a: usize, b: usize) -> usize
     ensures { λ r. ⌜ r ≡ min a b ⌝ }
 {
     if a < b { a } else { b }
