@@ -1,4 +1,4 @@
--- A message that has none of a query's terms exceeds none of its thresholds. Assumes nothing.
+-- The terms of a query: what stands in arrays side by side; a message that has none of them exceeds no threshold. Assumes nothing.
 use Prim.Native.Nat.{ℕ, zero, suc, _%_, _<_}
 use native.Mathlib.Nat.{not-suc-le-zero, le-of-suc-le-suc}
 use native.Mathlib.Omega.{arith}

@@ -15,17 +15,23 @@ abbrev μ-loop : tie.MeasureT-loop
 
 loop-again : tie.Need-loop-again Inv-loop μ-loop
 loop-again c =
-    let l = c .before .before .before .before .before .loop in
-    let a = c .before .before .before .before .before .before .before .before .before .before .before .before .before .before .before in
-    let pre = a .pre in
-    let long = long₂ _ _ (a .args .q) (a .args .k) (a .args .n) (pre .0 .0) (pre .0 .1) (omega arith) (pre .0 .2) (c .before .before .before .before .before .before .before .before .before .before .before .before .put .ensures) (c .before .before .before .before .before .before .before .before .put2 .ensures) in
-    putting-more (l .state) (long ∙ pre .0 .0) (pre .0 .1) (pre .0 .2) (omega arith) (omega (arith, pre .1 (l .i) (omega arith))) (c .before .before .put3 .ensures) (l .inv)
+    let l = c .before .before .before .before .before in
+    let two = l .before .before .before in
+    let one = two .before .before .before .before in
+    let s = one .before .before .before in
+    let pre = s .pre in
+    let long = long₂ _ _ (s .args .q) (s .args .k) (s .args .n) (pre .0 .0) (pre .0 .1) (omega arith) (pre .0 .2) (one .put .ensures) (two .put2 .ensures) in
+    putting-more (l .loop .state) (long ∙ pre .0 .0) (pre .0 .1) (pre .0 .2) (omega arith) (omega (arith, pre .1 (l .loop .i) (omega arith))) (c .before .before .put3 .ensures)
+    (l .loop .inv)
 
 returns : tie.Need-returns Inv-loop μ-loop
 returns c =
-    let a = c .before .before .before .before .before .before .before .before .before .before .before in
-    let pre = a .pre in
-    putting-all _ _ (a .args .q) (a .args .k) (a .args .n) (pre .0 .0) (pre .0 .1) (omega arith) (pre .0 .2) (c .before .before .before .before .before .before .before .before .put .ensures) (c .before .before .before .before .put2 .ensures) (omega arith) (search needs) (search needs) (c .before .loop .inv)
+    let two = c .before .before .before .before in
+    let one = two .before .before .before .before in
+    let s = one .before .before .before in
+    let pre = s .pre in
+    putting-all _ _ (s .args .q) (s .args .k) (s .args .n) (pre .0 .0) (pre .0 .1) (omega arith) (pre .0 .2) (one .put .ensures) (two .put2 .ensures) (omega arith) (search needs)
+    (search needs) (c .before .loop .inv)
 
 pub put-query-spec : {M : Type 1} → statement M
 put-query-spec =
