@@ -1,14 +1,14 @@
--- A message that has none of a query's terms exceeds none of its thresholds. Assumes nothing.
-use Prim.Native.Nat.{ℕ, zero, suc, _%_, _<_, _≤_}
+-- The terms of a query: what stands in arrays side by side; a message that has none of them exceeds no threshold. Assumes nothing.
+use Prim.Native.Nat.{ℕ, zero, suc, _%_, _<_}
 use native.Mathlib.Nat.{not-suc-le-zero, le-of-suc-le-suc}
 use native.Mathlib.Omega.{arith}
 use mathlib.Core.Path.{_≡_, refl, sym, ap, _∙_}
-use mathlib.Core.Bool.{Bool, true, false, false≢true}
+use mathlib.Core.Bool.{Bool, false, false≢true}
 use mathlib.Core.List.{List, [], _∷_}
 use lib.ListN.{length, getD}
 use borrow.Author.Tests.{le-ltb, ne-eqb}
 use Rattle.paper.specs.Frame.{Pair}
-use Rattle.paper.specs.Threshold.{termAt}
+use Rattle.paper.specs.Threshold.{termAt, weightAt}
 use Rattle.paper.specs.Write.{side-by-side}
 use Rattle.impact.specs.Cell.{cellTerm, lookup}
 use Rattle.window.specs.Terms.{termLimit, inSet, termOf}
@@ -29,14 +29,15 @@ exceeds-missing (q ∷ qs) [] cs f = refl
 exceeds-missing (q ∷ qs) (h ∷ hs) cs f =
     rw (lookup-missing (q .term) cs (f 0 (omega arith)), le-ltb h 0 (omega arith)) (exceeds-missing qs hs cs (λ i l. f (suc i) (omega arith)))
 
--- the terms of arrays side by side
-side-terms : (n : ℕ) (ts us : List ℕ) (i : ℕ) → i < length (side-by-side n ts us) → (i < n) × (termAt (side-by-side n ts us) i ≡ getD ts i 0)
-unfolding side-by-side termAt
-side-terms zero ts us i h = absurd (not-suc-le-zero h)
-side-terms (suc n) [] us i h = absurd (not-suc-le-zero h)
-side-terms (suc n) (t ∷ ts) [] i h = absurd (not-suc-le-zero h)
-side-terms (suc n) (t ∷ ts) (u ∷ us) zero h = (omega arith, refl)
-side-terms (suc n) (t ∷ ts) (u ∷ us) (suc i) h = let r = side-terms n ts us i (le-of-suc-le-suc h) in (omega arith, r .1)
+-- what stands in arrays side by side
+pub side-at : (n : ℕ) (ts us : List ℕ) (i : ℕ) → i < length (side-by-side n ts us)
+    → (i < n) × (termAt (side-by-side n ts us) i ≡ getD ts i 0) × (weightAt (side-by-side n ts us) i ≡ getD us i 0)
+unfolding side-by-side termAt weightAt
+side-at zero ts us i h = absurd (not-suc-le-zero h)
+side-at (suc n) [] us i h = absurd (not-suc-le-zero h)
+side-at (suc n) (t ∷ ts) [] i h = absurd (not-suc-le-zero h)
+side-at (suc n) (t ∷ ts) (u ∷ us) zero h = (omega arith, refl, refl)
+side-at (suc n) (t ∷ ts) (u ∷ us) (suc i) h = let r = side-at n ts us i (le-of-suc-le-suc h) in (omega arith, r .1, r .2)
 
 pub unwanted : (q : Query) (set : List Bool) (hs cs : List ℕ) → Wanted q set
     → ((k : ℕ) → k < length cs → (termOf cs k < termLimit) × (inSet set (termOf cs k) ≡ false)) → exceedsCells (termsOf q) hs cs ≡ false
@@ -45,6 +46,6 @@ unwanted q set hs cs has none = exceeds-missing (termsOf q) hs cs never
     never : (i : ℕ) → i < length (termsOf q) → (k : ℕ) → k < length cs → termOf cs k ≡ termAt (termsOf q) i → ⊥
     never i h k l e =
         let m = none k l in
-        let t = side-terms (q .n) (q .terms) (q .weights) i h in
+        let t = side-at (q .n) (q .terms) (q .weights) i h in
         let same : getD (q .terms) i 0 % termLimit ≡ termOf cs k = omega (arith, t .1) in
         false≢true (sym (m .1) ∙ ap (inSet set) (sym same) ∙ has i (t .0))

@@ -1,12 +1,11 @@
 -- The promises of the engine's calls. `s` is the lent state memory before the call and `s′` after it, in bytes. Assumes nothing.
-use Prim.Native.Nat.{ℕ, _+_, _*_, _≤_, _<_, _^_}
+use Prim.Native.Nat.{ℕ, _*_, _≤_, _<_, _^_}
 use mathlib.Core.Path.{_≡_}
 use mathlib.Core.Bool.{false}
-use mathlib.Core.List.{List, [], _∷_, _++_}
-use lib.ListN.{length, getD, take, drop, replicate}
+use mathlib.Core.List.{List, [], _++_}
+use lib.ListN.{length, take, drop, replicate}
 use Rattle.paper.specs.Frame.{shape}
 use Rattle.paper.specs.Frame.Shape.{refused}
-use Rattle.paper.specs.Rank.{Line}
 use Rattle.paper.specs.Log.{Log, Call, stateLength, numbers, judgeStart, after, judgeList, listed, postingLength, posted, judgePostings}
 use Rattle.paper.specs.Demand3.{replyTo, markedBy}
 use Rattle.paper.specs.Demand3 as Demand3

@@ -3,12 +3,11 @@ use Prim.Native.Nat.{ℕ, _≤_, _<_}
 use mathlib.Core.Path.{_≡_}
 use mathlib.Core.Bool.{cond}
 use mathlib.Core.List.{List, map}
-use mathlib.Core.Option.{Option, none, some}
+use mathlib.Core.Option.{none, some}
 use lib.ListN.{length, getD}
 use lib.Dec.{eqb}
 use Rattle.paper.specs.Log.{Log, numbers, queryAt, inForceNow}
 use Rattle.paper.specs.Sound.{Sound}
-use Rattle.paper.specs.Threshold.{Kept}
 use Rattle.paper.specs.Demand3.{Keeping}
 use Rattle.window.specs.Layout.{slots, stateWords, capacityAt, lifeAt, clockAt, oldestAt, countAt, recordAt}
 use Rattle.window.specs.Slot.{stored, window}

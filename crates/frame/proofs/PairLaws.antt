@@ -124,13 +124,6 @@ module _ (s : List ℕ) (w i next : ℕ) where
 
 -- ---- pairs handed over side by side
 
-pub length-beside : (n : ℕ) (ts us : List ℕ) → n ≤ length ts → n ≤ length us → length (side-by-side n ts us) ≡ n
-unfolding side-by-side
-length-beside zero ts us h k = refl
-length-beside (suc n) [] us h k = absurd (not-suc-le-zero h)
-length-beside (suc n) (t ∷ ts) [] h k = absurd (not-suc-le-zero k)
-length-beside (suc n) (t ∷ ts) (u ∷ us) h k = ap suc (length-beside n ts us (le-of-suc-le-suc h) (le-of-suc-le-suc k))
-
 pub beside-none : (n : ℕ) (ts us : List ℕ) → n ≡ 0 → side-by-side n ts us ≡ []
 unfolding side-by-side
 beside-none n ts us h = rw h

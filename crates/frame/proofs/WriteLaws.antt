@@ -20,7 +20,7 @@ use Rattle.paper.proofs.Tests.{and-true}
 use Rattle.frame.specs.declared.Written.{Written}
 use Rattle.frame.specs.Read.{pairsNumber}
 use Rattle.frame.specs.Write.{WritePost, PutPost, enoughPairs, pairsVerdict, pairBits, laid}
-use Rattle.frame.proofs.PairLaws.{length-beside}
+use Rattle.paper.proofs.WriteLaws.{length-side}
 use Rattle.frame.proofs.LaidLaws.{laid-field, laid-then, spell-length, pack-over}
 
 -- ---- the pairs that are handed over
@@ -118,7 +118,7 @@ module _ (head values ts us : List ℕ) (w n : ℕ) (lh : length head ≡ length
   -- what they pack to is the frame
   frame-bytes : pack (bytesFor (bitsOf head w n)) frame-bits ≡ written head w values (side-by-side n ts us)
   unfolding pairBits written
-  frame-bytes = rw (length-beside n ts us ht hu, spell-frame head values w (fillAfter (bitsOf head w n)) n (side-by-side n ts us) lh (length-beside n ts us ht hu))
+  frame-bytes = rw (length-side n ts us ht hu, spell-frame head values w (fillAfter (bitsOf head w n)) n (side-by-side n ts us) lh (length-side n ts us ht hu))
 
   pub length-written : length (written head w values (side-by-side n ts us)) ≡ bytesFor (bitsOf head w n)
   length-written = ap length (sym frame-bytes) ∙ length-pack (bytesFor (bitsOf head w n)) frame-bits

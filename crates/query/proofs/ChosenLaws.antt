@@ -1,11 +1,9 @@
 -- Slots chosen from the window and the messages that they hold. Assumes nothing.
-use Prim.Native.Nat.{ℕ, _+_, _≤_, _<_}
-use native.Mathlib.Omega.{arith}
-use mathlib.Core.Path.{_≡_, refl, sym, ap, ap₂, _∙_, subst}
+use Prim.Native.Nat.{ℕ}
+use mathlib.Core.Path.{_≡_, refl, sym, ap, _∙_, subst}
 use mathlib.Core.Bool.{Bool, true, false, cond, _||_}
 use mathlib.Core.Logic.{_⊎_, inl, inr, ⊎-elim}
-use mathlib.Core.List.{List, [], _∷_, _++_, map, map-map, map-append}
-use lib.ListN.{length, getD}
+use mathlib.Core.List.{List, [], _∷_, _++_, map, map-map}
 use Rattle.paper.specs.Frame.{Pair, Pairs, countWidth, mostPairs}
 use Rattle.paper.specs.Order.{In}
 use Rattle.paper.specs.Sort.{select}
@@ -19,26 +17,6 @@ use Rattle.window.specs.Slot.{Slot, slot, stored, ring, window}
 use Rattle.candidates.specs.Match.{exceedsCells, reachedSlots, AllRising}
 use Rattle.candidates.proofs.MatchLaws.{exceeds-stored, all-rising, reached-stored, select-agree, taken-slots}
 use Rattle.query.specs.Post.{Over}
-
--- ---- in two lists
-
-pub in-append : {A : Type 0} (a : A) (xs ys : List A) → In a (xs ++ ys) → In a xs ⊎ In a ys
-in-append a [] ys m = inr m
-in-append a (x ∷ xs) ys (inl e) = inl (inl e)
-in-append a (x ∷ xs) ys (inr m) = go (in-append a xs ys m)
-  where
-    go : In a xs ⊎ In a ys → In a (x ∷ xs) ⊎ In a ys
-    go (inl i) = inl (inr i)
-    go (inr i) = inr i
-
-pub in-left : {A : Type 0} (a : A) (xs ys : List A) → In a xs → In a (xs ++ ys)
-in-left a [] ys m = absurd m
-in-left a (x ∷ xs) ys (inl e) = inl e
-in-left a (x ∷ xs) ys (inr m) = inr (in-left a xs ys m)
-
-pub in-right : {A : Type 0} (a : A) (xs ys : List A) → In a ys → In a (xs ++ ys)
-in-right a [] ys m = m
-in-right a (x ∷ xs) ys m = inr (in-right a xs ys m)
 
 -- ---- messages within their ranges
 

@@ -1,10 +1,9 @@
 -- The record of a query once what is kept of it is stored: the window and the query are as they were, and what is read of it. Assumes nothing.
 use Prim.Native.Nat.{ℕ, _+_, _≤_, _<_}
-use native.Mathlib.Omega.{arith}
 use mathlib.Core.Path.{_≡_, sym, ap, _∙_}
 use mathlib.Core.Logic.{inl}
 use mathlib.Core.List.{List}
-use lib.ListN.{length, getD, take, drop}
+use lib.ListN.{getD, take, drop}
 use lib.Seq.{take-take, getD-take, getD-drop}
 use Rattle.paper.specs.Window.{Message}
 use Rattle.memory.specs.Keeps.{Keeps}

@@ -1,4 +1,4 @@
--- What a record says depends on its own words and on the slots of the window; records stand apart; which are in use. Assumes nothing.
+-- What a record says depends on its own words and on the slots of the window; which are in use. Assumes nothing.
 use Prim.Native.Nat.{ℕ, _+_, _≤_, _<_}
 use native.Mathlib.Nat.{add-zero}
 use native.Mathlib.Omega.{arith}
@@ -8,8 +8,8 @@ use mathlib.Core.Bool.{Bool, true, false, not, _&&_}
 use mathlib.Core.List.{List, [], _∷_, map}
 use mathlib.Core.Option.{Option, none, some}
 use lib.ListN.{length, getD, take, drop}
-use lib.Dec.{eqb, ltb}
-use borrow.Author.Tests.{eq-eqb, ne-eqb, ltb-true, ltb-false}
+use lib.Dec.{eqb}
+use borrow.Author.Tests.{eq-eqb, ne-eqb}
 use Rattle.paper.specs.Frame.{Pair}
 use Rattle.paper.specs.Log.{inUse}
 use Rattle.paper.specs.Order.{In}
@@ -22,7 +22,6 @@ use Rattle.memory.specs.Keeps.{Keeps}
 use Rattle.memory.proofs.KeepsLaws.{keeps-at, keeps-part}
 use Rattle.window.specs.Layout.{slots, recordAt, recordWords}
 use Rattle.window.specs.Slot.{slot, ring}
-use Rattle.window.proofs.SlotLaws.{slot-kept}
 use Rattle.candidates.proofs.MatchLaws.{in-ring}
 use Rattle.candidates.specs.Match.{exceedsCells}
 use Rattle.candidates.specs.Flags.{flagOf, inRing}
@@ -104,20 +103,6 @@ module _ {a e : ℕ} {w w′ : List ℕ} (kept : Keeps a e w w′) where
       pub holds-at-same : (ms : List Message) (x : Option Query) → ((query : Query) → x ≡ some query → Terms query) → HoldsAt w q o n ms x → HoldsAt w′ q o n ms x
       holds-at-same ms none t h = λ i l. word-same out (recordAt q + i) (omega arith) (omega arith) ∙ h i l
       holds-at-same ms (some query) t h = holds-same (t query refl) h
-
--- ---- records stand apart
-
-pub records-apart : {p q a : ℕ} → (p ≡ q → ⊥) → recordAt p ≤ a → (recordAt q + recordWords ≤ a) ⊎ (recordAt p + recordWords ≤ recordAt q)
-records-apart {p} {q} {a} d h = go (ltb p q) refl
-  where
-    go : (b : Bool) → ltb p q ≡ b → (recordAt q + recordWords ≤ a) ⊎ (recordAt p + recordWords ≤ recordAt q)
-    go true e = inr (omega (arith, ltb-true p q e))
-    go false e = inl (omega (arith, ltb-false p q e))
-
--- what is written into one record leaves the others
-pub holds-beside : {p a : ℕ} {w w′ : List ℕ} → Keeps a (recordAt p + recordWords) w w′ → recordAt p ≤ a → (q : ℕ) → (p ≡ q → ⊥) → (o n : ℕ) → o < slots
-    → (ms : List Message) (x : Option Query) → ((query : Query) → x ≡ some query → Terms query) → HoldsAt w q o n ms x → HoldsAt w′ q o n ms x
-holds-beside kept h q d o n first = holds-at-same kept q (records-apart d h) o n first (λ j l _. slot-kept kept j (inl (omega arith)))
 
 -- ---- which are in use
 

@@ -1,43 +1,25 @@
 -- A new query: it is written word by word, and settled over the window. Assumes nothing.
-use Prim.Native.Nat.{ℕ, zero, suc, _+_, _*_, _≤_, _<_, suc-le-suc}
-use native.Mathlib.Nat.{not-suc-le-zero, le-of-suc-le-suc}
+use Prim.Native.Nat.{ℕ, _+_, _*_, _≤_, _<_}
 use native.Mathlib.Omega.{arith}
 use mathlib.Core.Path.{_≡_, refl, sym, ap, _∙_}
-use mathlib.Core.List.{List, [], _∷_}
+use mathlib.Core.List.{List}
 use lib.ListN.{length, getD, set}
 use lib.Seq.{getD-set-same, getD-set-other}
 use borrow.Author.Count.{below-more}
 use Rattle.paper.specs.Log.{stateLength, numbers}
 use Rattle.paper.specs.Rank as Rank
-use Rattle.paper.specs.Threshold.{termAt, weightAt}
 use Rattle.paper.specs.Write.{side-by-side}
+use Rattle.paper.proofs.WriteLaws.{length-side}
 use Rattle.memory.specs.Words.{words, putWord}
 use Rattle.memory.specs.Keeps.{Keeps}
 use Rattle.memory.proofs.WordLaws.{put-word, put-length, words-length}
 use Rattle.memory.proofs.KeepsLaws.{keeps-refl, keeps-trans, keeps-wider, keeps-more}
 use Rattle.window.specs.Layout.{slots, recordAt}
 use Rattle.candidates.specs.declared.Query.{Query}
-use Rattle.query.specs.Record.{sizeIn, pairsIn, listedIn, Says}
+use Rattle.candidates.proofs.TermLaws.{side-at}
+use Rattle.query.specs.Record.{sizeIn, pairsIn, listedIn}
 use Rattle.query.specs.Post.{LoadedQuery, Refilled, PutQuery, Registered}
 use Rattle.query.proofs.KeptLaws.{over-kept}
-
--- ---- two arrays side by side
-
-side-size : (n : ℕ) (ts us : List ℕ) → n ≤ length ts → n ≤ length us → length (side-by-side n ts us) ≡ n
-unfolding side-by-side
-side-size zero ts us h k = refl
-side-size (suc n) [] us h k = absurd (not-suc-le-zero h)
-side-size (suc n) (t ∷ ts) [] h k = absurd (not-suc-le-zero k)
-side-size (suc n) (t ∷ ts) (u ∷ us) h k = ap suc (side-size n ts us (le-of-suc-le-suc h) (le-of-suc-le-suc k))
-
-side-at : (n : ℕ) (ts us : List ℕ) → n ≤ length ts → n ≤ length us → (i : ℕ) → i < n
-    → (getD ts i 0 ≡ termAt (side-by-side n ts us) i) × (getD us i 0 ≡ weightAt (side-by-side n ts us) i)
-unfolding side-by-side termAt weightAt
-side-at zero ts us h k i l = absurd (not-suc-le-zero l)
-side-at (suc n) [] us h k i l = absurd (not-suc-le-zero h)
-side-at (suc n) (t ∷ ts) [] h k i l = absurd (not-suc-le-zero k)
-side-at (suc n) (t ∷ ts) (u ∷ us) h k zero l = (refl, refl)
-side-at (suc n) (t ∷ ts) (u ∷ us) h k (suc i) l = side-at n ts us (le-of-suc-le-suc h) (le-of-suc-le-suc k) i (le-of-suc-le-suc l)
 
 -- ---- one word written
 
@@ -109,11 +91,10 @@ module _ (s₀ s₁ : List ℕ) {s₂ : List ℕ} (q k n : ℕ) (whole : length 
               f .keeps .below (recordAt q) (omega arith)
               ∙ elsewhere s₁ (sizeIn q) n r room₁ fn (recordAt q) (λ e. omega arith)
               ∙ here s₀ (recordAt q) k p room fk;
-          size = f .keeps .below (sizeIn q) (omega arith) ∙ here s₁ (sizeIn q) n r room₁ fn ∙ sym (side-size n ts us ht hu);
+          size = f .keeps .below (sizeIn q) (omega arith) ∙ here s₁ (sizeIn q) n r room₁ fn ∙ sym (length-side n ts us ht hu);
           pairs = λ j m.
-              let g : j < n = omega (arith, side-size n ts us ht hu) in
-              let e = side-at n ts us ht hu j g in
-              f .pairs j (omega arith) ∙ rw (e .0, e .1) refl;
+              let e = side-at n ts us j m in
+              f .pairs j (omega (arith, e .0)) ∙ rw (e .1, e .2) refl;
         };
       }
 

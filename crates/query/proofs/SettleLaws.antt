@@ -1,15 +1,15 @@
 -- When what is kept of a query is right: the thresholds that settling ends with, the flags and list beside them, and where they come from.
 -- Assumes nothing.
-use Prim.Native.Nat.{ℕ, zero, suc, _+_, _*_, _≤_, _<_, suc-le-suc}
+use Prim.Native.Nat.{ℕ, zero, suc, _≤_, _<_, suc-le-suc}
 use native.Mathlib.Nat.{mul-le-mul-right, eq-or-lt-of-le, not-suc-le-zero, le-of-suc-le-suc}
 use native.Mathlib.Omega.{arith}
 use mathlib.Core.Path.{_≡_, refl, sym, ap, ap₂, _∙_, subst}
-use mathlib.Core.Bool.{Bool, true, false, cond, _&&_, _||_, false≢true}
+use mathlib.Core.Bool.{Bool, true, false, _&&_, _||_, false≢true}
 use mathlib.Core.Logic.{_⊎_, inl, inr, ⊎-elim}
 use mathlib.Core.List.{List, [], _∷_, map, map-map}
 use lib.ListN.{length, getD, take, replicate, length-map, length-take, List·getD-eq-default}
 use lib.Seq.{getD-take, length-take-le}
-use lib.Dec.{eqb, leb, ltb}
+use lib.Dec.{ltb}
 use borrow.Author.Tests.{ltb-true, ltb-false, lt-ltb}
 use Rattle.paper.specs.Frame.{Pair}
 use Rattle.paper.specs.Impact.{top, score}
@@ -22,7 +22,6 @@ use Rattle.paper.specs.Write.{side-by-side}
 use Rattle.paper.specs.Sound.{Messages, Terms}
 use Rattle.paper.specs.Threshold.{exceeds, thresholdSum, lastScore, Tight, Settled}
 use Rattle.paper.specs.Threshold as Threshold
-use Rattle.paper.proofs.Tests.{and-true}
 use Rattle.paper.proofs.RankLaws.{ranking-right, ranking-length}
 use Rattle.paper.proofs.ThresholdLaws.{sum-zero, Safe, candidates-enough}
 use Rattle.impact.specs.Cell.{lookup}
@@ -31,8 +30,8 @@ use Rattle.rank.specs.Listing.{linesOf, lastOf}
 use Rattle.rank.specs.Weights.{weightedSum, Raised}
 use Rattle.rank.proofs.LineLaws.{length-listed}
 use Rattle.rank.proofs.PaperLaws.{lines-last, threshold-sum, raised-tight}
-use Rattle.window.specs.Layout.{slots, recordAt}
-use Rattle.window.specs.Slot.{slot, stored, ring, window}
+use Rattle.window.specs.Layout.{slots}
+use Rattle.window.specs.Slot.{slot, stored, ring}
 use Rattle.window.proofs.SlotLaws.{slot-kept}
 use Rattle.candidates.specs.declared.Query.{Query}
 use Rattle.candidates.specs.Match.{exceedsCells, scored}
@@ -41,7 +40,7 @@ use Rattle.candidates.specs.Post.{termsOf, lineIn, grows, RankedBy, Sifted, Fla
 use Rattle.candidates.proofs.FlagLaws.{zero-at}
 use Rattle.candidates.proofs.MatchLaws.{in-ring, rising-ring, ranking-stored}
 use Rattle.query.specs.Record.{thresholds, flags, candidates, keptOf, Says, Holds}
-use Rattle.query.specs.Post.{InRange, Is, sumOf, Room, Lifted, secure, StoredKept, Over, Ready}
+use Rattle.query.specs.Post.{InRange, Is, sumOf, Lifted, secure, StoredKept, Over, Ready}
 use Rattle.query.proofs.ChosenLaws.{messages-select, over-rising, chosen, serials-of}
 use Rattle.query.proofs.LiftLaws.{secure-zero, secure-safe}
 use Rattle.query.proofs.RecordLaws.{says-same}
@@ -173,7 +172,7 @@ module _ {w : List ℕ} {q o n : ℕ} {ms : List Message} {query : Rank.Query} {
 -- ---- what is stored at the end
 
 -- a middle test that the other two imply
-and-drop : (a b c : Bool) → (a ≡ true → c ≡ true → b ≡ true) → (a && b && c) ≡ (a && c)
+and-drop : (a b c : Bool) → (a ≡ true → c ≡ true → b ≡ true) → (a && (b && c)) ≡ (a && c)
 and-drop true true c h = refl
 and-drop true false false h = refl
 and-drop true false true h = absurd (false≢true (h refl refl))
@@ -213,7 +212,7 @@ module _ {w : List ℕ} {q o n : ℕ} {fs : List ℕ} {r : Query} {hs hs′ : Li
   flagged j h =
       ap (λ (xs : List ℕ). flagOf xs j) (flags-stored kept)
       ∙ sifted .right (rising-ring w o n ho (over-rising (ready .over))) (ready .is .rising) j h
-      ∙ ap (λ (qs : List Pair). inRing o n j && flagOf fs j && exceedsCells qs (take (r .n) hs′) (slot w j .cells)) (ready .is .terms)
+      ∙ ap (λ (qs : List Pair). inRing o n j && (flagOf fs j && exceedsCells qs (take (r .n) hs′) (slot w j .cells))) (ready .is .terms)
       ∙ and-drop (inRing o n j) (flagOf fs j) (exceedsCells (query .terms) (take (r .n) hs′) (slot w j .cells)) (taken j h)
       ∙ rw (first-ones, slot-kept (kept .keeps) j (inl (omega arith)))
 

@@ -3,11 +3,11 @@ use Prim.Native.Nat.{ℕ, _+_, _-_, _%_, _≤_, _<_}
 use native.Mathlib.Omega.{arith}
 use mathlib.Core.Path.{_≡_, refl, sym, ap, ap₂, _∙_, subst}
 use mathlib.Core.Bool.{Bool, true, false, cond, _&&_, false≢true, true≢false}
-use mathlib.Core.Logic.{inl, inr, ⊎-elim}
+use mathlib.Core.Logic.{inl, ⊎-elim}
 use mathlib.Core.List.{List, [], _∷_, _++_, map}
-use lib.ListN.{length, getD, take, drop, length-map}
-use lib.Dec.{eqb, ltb}
-use borrow.Author.Tests.{eqb-true, eqb-false, eq-eqb, ne-eqb, ltb-true, lt-ltb, le-ltb}
+use lib.ListN.{length, getD, drop, length-map}
+use lib.Dec.{eqb}
+use borrow.Author.Tests.{eqb-true, eq-eqb, ne-eqb, ltb-true, lt-ltb, le-ltb}
 use Rattle.paper.specs.Frame.{Pair}
 use Rattle.paper.specs.Impact.{score}
 use Rattle.paper.specs.Order.{In}
@@ -15,7 +15,7 @@ use Rattle.paper.specs.Rank as Rank
 use Rattle.paper.specs.Rank.{ranking, serials}
 use Rattle.paper.specs.Sort.{select}
 use Rattle.paper.specs.Sound.{Messages, Terms}
-use Rattle.paper.specs.Threshold.{lastScore, Settled}
+use Rattle.paper.specs.Threshold.{lastScore}
 use Rattle.paper.specs.Threshold as Threshold
 use Rattle.paper.specs.Window.{Message}
 use Rattle.paper.proofs.Tests.{and-true}
@@ -25,18 +25,19 @@ use Rattle.rank.specs.declared.Ranked.{Ranked}
 use Rattle.rank.specs.Listing.{linesOf, lastOf}
 use Rattle.rank.proofs.LineLaws.{length-listed}
 use Rattle.rank.proofs.PaperLaws.{lines-last}
-use Rattle.window.specs.Layout.{slots, recordAt, recordWords}
-use Rattle.window.specs.Slot.{Slot, slot, stored, ring, window}
-use Rattle.window.proofs.RingLaws.{ring-append, ring-length}
+use Rattle.window.specs.Layout.{slots}
+use Rattle.window.specs.Slot.{Slot, slot, stored, ring}
+use Rattle.window.proofs.RingLaws.{ring-append}
 use Rattle.window.proofs.SlotLaws.{slot-kept}
 use Rattle.candidates.specs.declared.Query.{Query}
 use Rattle.candidates.specs.Flags.{flagOf, inRing}
 use Rattle.candidates.specs.Match.{exceedsCells, lowSlots, AllRising}
 use Rattle.candidates.specs.Post.{termsOf, Rising, Low}
 use Rattle.candidates.proofs.MatchLaws.{in-ring, ring-in, score-stored}
-use Rattle.query.specs.Record.{listedIn, thresholdsIn, serialsIn, scoresIn, flagsIn, thresholds, flags, list, candidates, keptOf, Holds}
-use Rattle.query.specs.Post.{Is, LoadedQuery, LoadedThresholds, LoadedList, Over, arriving, Arriving, Reached, Arrived, NewestLow, Stands, KeptList, Change, Updated}
-use Rattle.query.proofs.ChosenLaws.{in-append, in-left, in-right, slots-rise, chosen, serials-of}
+use Rattle.candidates.proofs.WalkLaws.{in-append, in-left, in-right}
+use Rattle.query.specs.Record.{listedIn, thresholdsIn, serialsIn, scoresIn, thresholds, flags, list, candidates, keptOf, Holds}
+use Rattle.query.specs.Post.{Is, LoadedQuery, LoadedThresholds, LoadedList, arriving, Arriving, Reached, Arrived, NewestLow, Stands, KeptList, Change, Updated}
+use Rattle.query.proofs.ChosenLaws.{slots-rise, chosen, serials-of}
 use Rattle.query.proofs.KeptLaws.{over-kept}
 use Rattle.query.proofs.RecordLaws.{says-same}
 use Rattle.query.proofs.SettleLaws.{Sixteen, last-positive}

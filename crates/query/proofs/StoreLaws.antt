@@ -55,17 +55,17 @@ pub zeros-length : length zeros ≡ recordWords
 unfolding zeros
 zeros-length = length-replicate {A = ℕ} recordWords 0
 
-zero-at : (i : ℕ) → i < recordWords → getD zeros i 0 ≡ 0
+zeros-at : (i : ℕ) → i < recordWords → getD zeros i 0 ≡ 0
 unfolding zeros
-zero-at i h = getD-replicate recordWords i 0 0 h
+zeros-at i h = getD-replicate recordWords i 0 0 h
 
 -- one more
 pub zeros-more : {at i : ℕ} {s₀ s s′ : List ℕ} → 4 * (at + recordWords) ≤ length s₀ → i < recordWords → s′ ≡ putWord s (at + i) 0
     → Storing recordWords at i zeros s₀ s → Storing recordWords at (i + 1) zeros s₀ s′
-zeros-more {at} {i} h k e p = let z = zero-at i k in storing-more h k (rw z (search needs)) (rw z e) p
+zeros-more {at} {i} h k e p = let z = zeros-at i k in storing-more h k (rw z (search needs)) (rw z e) p
 
 pub cleared : {q : ℕ} {w w′ : List ℕ} → Stored (recordAt q) recordWords zeros w w′ → Cleared w q w′
 cleared {q} {w} {w′} p = record {
   keeps = p .keeps;
-  zero = λ i h. rw (← getD-drop (recordAt q) w′ i 0, ← getD-take recordWords (drop (recordAt q) w′) i 0 h, p .reads) (zero-at i h);
+  zero = λ i h. rw (← getD-drop (recordAt q) w′ i 0, ← getD-take recordWords (drop (recordAt q) w′) i 0 h, p .reads) (zeros-at i h);
 }

@@ -3,20 +3,19 @@ use Prim.Native.Nat.{ℕ, _+_, _≤_, _<_}
 use native.Mathlib.Omega.{arith}
 use mathlib.Core.Path.{_≡_, refl, sym, ap, ap₂, _∙_, subst}
 use mathlib.Core.Bool.{Bool, true, false, cond, _&&_, _||_, and-false, or-comm, or-false, false≢true, true≢false}
-use mathlib.Core.Logic.{_⊎_, inl, inr, ⊎-elim}
+use mathlib.Core.Logic.{inl, inr, ⊎-elim}
 use mathlib.Core.List.{List, [], _∷_, _++_, map, map-append, append-nil}
 use lib.ListN.{length, getD, take, drop, length-take, List·getD-eq-default}
 use lib.Seq.{take-take, getD-take, getD-drop}
 use lib.Dec.{eqb, ltb}
 use borrow.Author.Tests.{eqb-true, eqb-false, ltb-true, lt-ltb, le-ltb}
 use Rattle.paper.specs.Frame.{Pair}
-use Rattle.paper.specs.Impact.{top}
 use Rattle.paper.specs.Order.{In}
 use Rattle.paper.specs.Rank as Rank
 use Rattle.paper.specs.Sort.{select}
 use Rattle.paper.specs.Window.{Message}
 use Rattle.paper.specs.Sound.{Messages, Terms}
-use Rattle.paper.specs.Threshold.{reached, Kept, Settled}
+use Rattle.paper.specs.Threshold.{reached, Settled}
 use Rattle.paper.proofs.Tests as Tests
 use Rattle.paper.proofs.SortLaws.{select-append, select-none}
 use Rattle.paper.proofs.ThresholdLaws.{skip}
@@ -29,10 +28,11 @@ use Rattle.candidates.specs.Match.{exceedsCells, reachedSlots, AllRising}
 use Rattle.candidates.specs.Flags.{flagOf, inRing}
 use Rattle.candidates.specs.Post.{termsOf, Rising, exceedsIn, Exceeding, Reaching}
 use Rattle.candidates.proofs.MatchLaws.{in-ring, ring-in}
+use Rattle.candidates.proofs.WalkLaws.{in-append, in-left, in-right}
 use Rattle.candidates.proofs.TermLaws.{exceeds-missing}
-use Rattle.query.specs.Record.{listedIn, thresholdsIn, flagsIn, thresholds, flags, list, candidates, keptOf, Holds}
+use Rattle.query.specs.Record.{listedIn, thresholdsIn, thresholds, flags, list, candidates, keptOf, Holds}
 use Rattle.query.specs.Post.{Is, LoadedQuery, LoadedThresholds, Over, arriving, Arriving, Reached, Arrived, Change, reaches, SettledFrom, HasTerms, Covers, Shares, Updated}
-use Rattle.query.proofs.ChosenLaws.{in-append, in-left, in-right, messages-parts, slots-rise, slots-reached, reached-append, unreached-slot}
+use Rattle.query.proofs.ChosenLaws.{messages-parts, slots-rise, slots-reached, reached-append, unreached-slot}
 use Rattle.query.proofs.SettleLaws.{lt-or-ge}
 
 -- ---- the query as it is loaded

@@ -11,7 +11,6 @@ use Rattle.paper.specs.Rank as Rank
 use Rattle.paper.specs.Window.{Message}
 use Rattle.paper.specs.Order.{In}
 use Rattle.paper.specs.Threshold.{thresholdSum, lastScore, reached, termAt}
-use Rattle.paper.specs.Write.{side-by-side}
 use Rattle.paper.specs.Sound.{Messages, Terms}
 use Rattle.memory.specs.Keeps.{Keeps}
 use Rattle.impact.specs.Cell.{RisingTerms}

@@ -7,7 +7,7 @@ use Rattle.wire.specs.Field.{total}
 use Rattle.paper.specs.Frame.{encode, written, messageHead, countWidth}
 use Rattle.paper.specs.Frame.Frame.{message}
 use Rattle.paper.specs.Write.{side-by-side}
-use Rattle.frame.proofs.PairLaws.{length-beside}
+use Rattle.paper.proofs.WriteLaws.{length-side}
 use Rattle.frame.proofs.LaidLaws.{laid-more}
 use Rattle.frame.proofs.WriteLaws.{encode-puts}
 use Rattle.frame.proofs.put_message.Statement.{statement}
@@ -17,7 +17,7 @@ use Rattle.frame.proofs.put_message.Tie as tie
 encoded : (c : tie.Start) → let a = c .args in let ps = side-by-side (a .pairs) (a .terms .now) (a .amounts .now) in
     encode (message (a .time) (a .serial) ps) ≡ written messageHead countWidth (1 ∷ a .time ∷ a .serial ∷ (a .pairs - 1) ∷ []) ps
 unfolding encode
-encoded c = let a = c .args in rw (length-beside (a .pairs) (a .terms .now) (a .amounts .now) (omega arith) (omega arith))
+encoded c = let a = c .args in rw (length-side (a .pairs) (a .terms .now) (a .amounts .now) (omega arith) (omega arith))
 
 returns : tie.Need-returns
 unfolding total

@@ -7,7 +7,7 @@ use Rattle.wire.specs.Field.{total}
 use Rattle.paper.specs.Frame.{encode, written, registerHead, weightWidth}
 use Rattle.paper.specs.Frame.Frame.{register}
 use Rattle.paper.specs.Write.{side-by-side}
-use Rattle.frame.proofs.PairLaws.{length-beside}
+use Rattle.paper.proofs.WriteLaws.{length-side}
 use Rattle.frame.proofs.LaidLaws.{laid-more}
 use Rattle.frame.proofs.WriteLaws.{encode-puts}
 use Rattle.frame.proofs.put_register.Statement.{statement}
@@ -17,7 +17,7 @@ use Rattle.frame.proofs.put_register.Tie as tie
 encoded : (c : tie.Start) → let a = c .args in let ps = side-by-side (a .pairs) (a .terms .now) (a .amounts .now) in
     encode (register (a .time) (a .number) (a .k) ps) ≡ written registerHead weightWidth (3 ∷ a .time ∷ a .number ∷ (a .k - 1) ∷ (a .pairs - 1) ∷ []) ps
 unfolding encode
-encoded c = let a = c .args in rw (length-beside (a .pairs) (a .terms .now) (a .amounts .now) (omega arith) (omega arith))
+encoded c = let a = c .args in rw (length-side (a .pairs) (a .terms .now) (a .amounts .now) (omega arith) (omega arith))
 
 returns : tie.Need-returns
 unfolding total

@@ -1,3 +1,4 @@
+-- `finish` meets its contract. Assumes nothing.
 use mathlib.Core.Path.{_≡_}
 use lib.ListN.{length}
 use native.Mathlib.Omega.{arith}
@@ -5,11 +6,6 @@ use borrow.Author.Needs.{needs, length-unmapped}
 use Rattle.query.proofs.SettleLaws.{Sixteen, finished}
 use Rattle.query.proofs.finish.Statement.{statement}
 use Rattle.query.proofs.finish.Tie as tie
-use Rattle.query.proofs.finish.Reads as reads
-use Rattle.query.proofs.finish.Lts as lts
-use Rattle.candidates.proofs.sifted.Reads as sifted-reads
-use Rattle.query.proofs.raised.Reads as raised-reads
-use Rattle.query.proofs.store.Reads as store-reads
 
 sixteen : (c : tie.Start) → Sixteen (c .args .list)
 sixteen c = record { most = omega arith; serials = search (needs, length-unmapped); scores = search (needs, length-unmapped) }
@@ -20,23 +16,6 @@ eight c = search (needs, length-unmapped)
 eight-next : (c : tie.After-raised) → length (c .raised .result) ≡ 8
 eight-next c = search (needs, length-unmapped)
 
--- src/lib.rt:169:9
-raised-requires : tie.Need-raised-requires
-raised-requires c κs = c .before .pre .1
-
--- src/lib.rt:170:9
-sifted-requires : tie.Need-sifted-requires
-sifted-requires c κs = search needs
-
--- src/lib.rt:171:5
-store-requires : tie.Need-store-requires
-store-requires c κs = search needs
-
--- src/lib.rt:163:1
-same-length : tie.Need-same-length
-same-length c = search needs
-
--- src/lib.rt:163:1
 returns : tie.Need-returns
 returns c =
     let t = c .before .before .store in
@@ -50,4 +29,10 @@ returns c =
 
 pub finish-spec : {M : Type 1} → statement M
 finish-spec =
-    tie.close (tie.spec raised-requires sifted-requires store-requires same-length returns)
+    tie.close
+    (tie.spec
+    (λ c κs. c .before .pre .1)
+    (λ c κs. search needs)
+    (λ c κs. search needs)
+    (λ c. search needs)
+    returns)

@@ -1,5 +1,4 @@
 -- `list_stands` meets its contract. Assumes nothing.
-use native.Mathlib.Omega.{arith}
 use borrow.Author.Needs.{needs, length-unmapped}
 use borrow.Author.Tests.{not-true, not-false}
 use mathlib.Core.Path.{subst}

@@ -1,3 +1,4 @@
+-- `settle` meets its contract. Assumes nothing.
 use mathlib.Core.Path.{_≡_, sym, _∙_}
 use lib.ListN.{length}
 use native.Mathlib.Omega.{arith}
@@ -6,12 +7,6 @@ use Rattle.query.proofs.SettleLaws.{Sixteen, ready-chosen}
 use Rattle.query.proofs.LiftLaws.{weights-below}
 use Rattle.query.proofs.settle.Statement.{statement}
 use Rattle.query.proofs.settle.Tie as tie
-use Rattle.query.proofs.settle.Reads as reads
-use Rattle.query.proofs.settle.Lts as lts
-use Rattle.candidates.proofs.ranked.Reads as ranked-reads
-use Rattle.query.proofs.finish.Reads as finish-reads
-use Rattle.query.proofs.is_safe.Reads as is-safe-reads
-use Rattle.query.proofs.refill.Reads as refill-reads
 
 sixteen : (c : tie.After-ranked) → Sixteen (c .ranked .result)
 sixteen c = record { most = omega (arith, c .ranked .ensures .within, c .before .before .before .pre .1 .0 .k-most); serials = search (needs, length-unmapped); scores = search (needs, length-unmapped) }
@@ -19,27 +14,6 @@ sixteen c = record { most = omega (arith, c .ranked .ensures .within, c .before 
 eight : (c : tie.Start) → length (c .args .thresholds) ≡ 8
 eight c = search (needs, length-unmapped)
 
--- src/lib.rt:214:9
-ranked-requires : tie.Need-ranked-requires
-ranked-requires c κs = let p = c .before .before .pre in ((search needs, search needs, p .1 .0 .n-most, p .1 .0 .k-most), weights-below (p .1 .0))
-
--- src/lib.rt:215:8
-is-safe-requires : tie.Need-is-safe-requires
-is-safe-requires c κs = search needs
-
--- src/lib.rt:216:9
-finish-requires : tie.Need-finish-requires
-finish-requires c κs = let p = c .before .before .before .before .before .before .pre in (search needs, (p .1 .0, (omega (arith, c .before .before .before .ranked .ensures .within, p .1 .0 .k-most), p .1 .1)))
-
--- src/lib.rt:218:9
-refill-requires : tie.Need-refill-requires
-refill-requires c κs = search needs
-
--- src/lib.rt:208:1
-same-length : tie.Need-same-length
-same-length c = search needs
-
--- src/lib.rt:208:1
 returns : tie.Need-returns
 returns c =
     let f = c .before .before in
@@ -53,11 +27,6 @@ returns c =
           (ready-chosen (omega arith) (g .ranked .ensures) ms query over terms says is (s .args .thresholds) (eight s) (s .pre .1 .0) (sixteen g) unused exact (sym (t .is-safe .ensures) ∙ f .before .before .if1 .taken));
     }
 
--- src/lib.rt:208:1
-same-length-2 : tie.Need-same-length-2
-same-length-2 c = search needs
-
--- src/lib.rt:208:1
 returns-2 : tie.Need-returns-2
 returns-2 c =
     let f = c .before .before in
@@ -70,11 +39,11 @@ pub settle-spec : {M : Type 1} → statement M
 settle-spec =
     tie.close
     (tie.spec
-    ranked-requires
-    is-safe-requires
-    finish-requires
-    refill-requires
-    same-length
+    (λ c κs. let p = c .before .before .pre in ((search needs, search needs, p .1 .0 .n-most, p .1 .0 .k-most), weights-below (p .1 .0)))
+    (λ c κs. search needs)
+    (λ c κs. let p = c .before .before .before .before .before .before .pre in (search needs, (p .1 .0, (omega (arith, c .before .before .before .ranked .ensures .within, p .1 .0 .k-most), p .1 .1))))
+    (λ c κs. search needs)
+    (λ c. search needs)
     returns
-    same-length-2
+    (λ c. search needs)
     returns-2)
