@@ -1,17 +1,17 @@
 -- Bits of a word: one of them, a word spelled bit by bit, and words in an array. Assumes nothing.
 use Prim.Native.Nat.{ℕ, zero, suc, _+_, _-_, _*_, _/_, _%_, _^_, _<_}
-use native.Mathlib.Nat.{mod-lt, le-of-suc-le-suc, not-suc-le-zero, eq-or-lt-of-le, div-one, zero-div, pow-suc, lt-of-lt-of-le}
+use native.Mathlib.Nat.{mod-lt, le-of-suc-le-suc, not-suc-le-zero, div-one, zero-div, pow-suc}
 use native.Mathlib.Numerals.{add-one}
 use native.Mathlib.Omega.{arith}
 use mathlib.Core.Path.{_≡_, refl, sym, ap, ap₂, _∙_, subst}
 use mathlib.Core.Bool.{Bool, true, false, cond}
 use mathlib.Core.Logic.{⊎-elim}
 use mathlib.Core.List.{List, [], _∷_, _++_, append-assoc}
-use lib.ListN.{length, getD, set, replicate, List·getD-append}
+use lib.ListN.{length, getD, set, replicate}
 use lib.Seq.{getD-at, getD-set-same, getD-set-other}
 use lib.Dec.{eqb, ltb}
 use borrow.Author.Tests.{ltb-true, ltb-false, eqb-true, eqb-false, eq-eqb, ne-eqb}
-use lib.Pow.{shr-shr, pow-mono, pow-pos, pow-add, high, shr-lt}
+use lib.Pow.{pow-mono, pow-pos, pow-add, high, shr-lt}
 use lib.Arith.{digits-lt}
 use Rattle.wire.specs.Bits.{val, odd, bits}
 use Rattle.wire.proofs.BitLaws.{val-lt, odd-val, odd-skip, length-bits, bits-add, bits-skip, bits-mod}
@@ -42,27 +42,6 @@ zero-at (suc n) (suc i) = zero-at n i
 pub no-flags : (n j : ℕ) → flagOf (replicate n 0) j ≡ false
 unfolding flagOf
 no-flags n j = rw (zero-at n (j / 32)) (no-bit 32 (j % 32))
-
-even-part : (x t : ℕ) → x % 256 ≡ 0 → t < 8 → x / 2 ^ t % 2 ≡ 0
-even-part x zero e h = omega arith
-even-part x (suc zero) e h = omega arith
-even-part x (suc (suc zero)) e h = omega arith
-even-part x (suc (suc (suc zero))) e h = omega arith
-even-part x (suc (suc (suc (suc zero)))) e h = omega arith
-even-part x (suc (suc (suc (suc (suc zero))))) e h = omega arith
-even-part x (suc (suc (suc (suc (suc (suc zero)))))) e h = omega arith
-even-part x (suc (suc (suc (suc (suc (suc (suc zero))))))) e h = omega arith
-even-part x (suc (suc (suc (suc (suc (suc (suc (suc t)))))))) e h = absurd (omega arith)
-
--- a byte of 0 flags none of its eight slots
-pub none-flagged : (fs : List ℕ) (j i : ℕ) → getD fs (j / 32) 0 / 2 ^ (24 - j % 32 / 8 * 8) % 256 ≡ 0 → i / 8 ≡ j / 8 → flagOf fs i ≡ false
-unfolding flagOf odd
-none-flagged fs j i z same =
-    let word : ℕ = getD fs (j / 32) 0 in
-    let here : i / 32 ≡ j / 32 = omega arith in
-    let place : 31 - i % 32 ≡ (24 - j % 32 / 8 * 8) + (7 - i % 8) = omega arith in
-    let even = even-part (word / 2 ^ (24 - j % 32 / 8 * 8)) (7 - i % 8) z (omega arith) in
-    rw here (bit-of 32 word (i % 32) (omega arith) ∙ ap (λ (n : ℕ). odd (word / 2 ^ n)) place ∙ ap odd (sym (shr-shr word (24 - j % 32 / 8 * 8) (7 - i % 8))) ∙ ap (λ (n : ℕ). eqb n 1) even)
 
 -- one bit more at the end
 bits-snoc : (n x : ℕ) (b : Bool) → bits (n + 1) (x * 2 + val b) ≡ bits n x ++ (b ∷ [])

@@ -1,13 +1,12 @@
 -- A walk over the window from its oldest slot on: one law for each way that a turn goes. Assumes nothing.
-use Prim.Native.Nat.{ℕ, _+_, _-_, _%_, _≤_, _<_}
-use native.Mathlib.Omega.{arith}
+use Prim.Native.Nat.{ℕ, _-_, _≤_, _<_}
 use mathlib.Core.Path.{_≡_, refl, sym, ap, ap₂, _∙_, subst}
 use mathlib.Core.Bool.{Bool, true, false, cond, _&&_, false≢true}
 use mathlib.Core.Logic.{_⊎_, inl, inr, ⊎-elim}
-use mathlib.Core.List.{List, [], _∷_, _++_, map}
+use mathlib.Core.List.{List, _∷_, map}
 use lib.ListN.{replicate}
 use lib.Dec.{eqb}
-use borrow.Author.Tests.{ltb-true, lt-ltb, le-ltb, eqb-true, eqb-false, eq-eqb, ne-eqb}
+use borrow.Author.Tests.{lt-ltb, le-ltb, eqb-true, eqb-false, eq-eqb, ne-eqb}
 use Rattle.paper.specs.Frame.{Pair}
 use Rattle.paper.specs.Order.{In}
 use Rattle.paper.specs.Rank.{Line}
@@ -16,8 +15,7 @@ use Rattle.impact.specs.Cell.{RisingCells}
 use Rattle.rank.specs.Listing.{grown}
 use Rattle.window.specs.Layout.{slots}
 use Rattle.window.specs.Slot.{slot, next, ring, window}
-use Rattle.paper.proofs.SortLaws.{select-append, select-none}
-use Rattle.window.proofs.RingLaws.{ring-step, ring-none, ring-append}
+use Rattle.window.proofs.RingLaws.{ring-step, ring-none}
 use Rattle.candidates.specs.Match.{scoreCells, exceedsCells, reachedSlots, lowSlots, AllRising}
 use Rattle.candidates.specs.Flags.{flagOf, inRing}
 use Rattle.candidates.specs.Post.{WithFlag, grows}
@@ -61,71 +59,17 @@ module _ (w : List ℕ) (o n : ℕ) (qs : List Pair) (bound : ℕ) where
 pub same-line : {s s′ v v′ : ℕ} (k : ℕ) (l : List Line) → s ≡ s′ → v ≡ v′ → grown k (record { serial = s; score = v }) l ≡ grown k (record { serial = s′; score = v′ }) l
 same-line k l e f = ap₂ (λ (s v : ℕ). grown k (record { serial = s; score = v }) l) e f
 
--- ---- a run of slots that doesn't pass the ring's end
-
-ring-parts : (o n r : ℕ) → o < slots → r ≤ n → ring o n ≡ ring o r ++ ring ((o + r) % slots) (n - r)
-ring-parts o n r h most = let e : n ≡ r + (n - r) = omega arith in ap (ring o) e ∙ ring-append o r (n - r) h
-
-rising-after : (w xs ys : List ℕ) → AllRising (map (slot w) (xs ++ ys)) → AllRising (map (slot w) ys)
-rising-after w [] ys rise = rise
-rising-after w (x ∷ xs) ys rise = rising-after w xs ys (rise .1)
-
-pub rising-on : (w : List ℕ) (o n r : ℕ) → o < slots → r ≤ n → AllRising (window w o n) → AllRising (window w ((o + r) % slots) (n - r))
-rising-on w o n r h most rise = rising-after w (ring o r) (ring ((o + r) % slots) (n - r)) (subst (λ (js : List ℕ). AllRising (map (slot w) js)) (ring-parts o n r h most) rise)
-
-run-in : (o n i : ℕ) → o < slots → o + n ≤ slots → In i (ring o n) → (o ≤ i) × (i < o + n)
-unfolding inRing
-run-in o n i h k m =
-    let p = in-ring o n i h m in
-    let a : (i + slots - o) % slots < n = ltb-true ((i + slots - o) % slots) n (p .1) in
-    (omega (arith, p .0), omega (arith, p .0))
-
-pub in-append : {A : Type 0} (a : A) (xs ys : List A) → In a (xs ++ ys) → In a xs ⊎ In a ys
-in-append a [] ys m = inr m
-in-append a (x ∷ xs) ys (inl e) = inl (inl e)
-in-append a (x ∷ xs) ys (inr m) = ⊎-elim (λ i. inl (inr i)) (λ i. inr i) (in-append a xs ys m)
-
-pub in-left : {A : Type 0} (a : A) (xs ys : List A) → In a xs → In a (xs ++ ys)
-in-left a [] ys m = absurd m
-in-left a (x ∷ xs) ys (inl e) = inl e
-in-left a (x ∷ xs) ys (inr m) = inr (in-left a xs ys m)
-
-pub in-right : {A : Type 0} (a : A) (xs ys : List A) → In a ys → In a (xs ++ ys)
-in-right a [] ys m = m
-in-right a (x ∷ xs) ys m = inr (in-right a xs ys m)
-
 -- the list of those taken of the slots that are left
 module _ (k : ℕ) (line : ℕ → Line) (test : ℕ → Bool) (o n : ℕ) (l : List Line) where
-  -- of r slots from slot o on none but slot o passes the test
-  module _ (r : ℕ) (least : 1 ≤ r) (most : r ≤ n) (within : o + r ≤ slots) (none : (i : ℕ) → o < i → i < o + r → test i ≡ false) where
-    rest : List ℕ
-    rest = select test (ring ((o + r) % slots) (n - r))
+  pub grows-taken : 0 < n → test o ≡ true
+      → grows k (grown k (line o) l) (map line (select test (ring (next o) (n - 1)))) ≡ grows k l (map line (select test (ring o n)))
+  unfolding grows select
+  grows-taken some e = rw (ring-step o n some, e)
 
-    select-run : select test (ring o n) ≡ cond (test o) (o ∷ rest) rest
-    unfolding select rest
-    select-run =
-        ap (select test) (ring-parts o n r (omega arith) most)
-        ∙ select-append test (ring o r) (ring ((o + r) % slots) (n - r))
-        ∙ ap (λ (xs : List ℕ). select test xs ++ rest) (ring-step o r least)
-        ∙ ap (λ (xs : List ℕ). cond (test o) (o ∷ xs) xs ++ rest) (select-none test (ring (next o) (r - 1)) later)
-        ∙ go (test o)
-      where
-        later : (x : ℕ) → In x (ring (next o) (r - 1)) → test x ≡ false
-        later x m =
-            let b = run-in (next o) (r - 1) x (omega arith) (omega arith) m in
-            none x (omega arith) (omega arith)
-
-        go : (t : Bool) → cond t (o ∷ []) [] ++ rest ≡ cond t (o ∷ rest) rest
-        go true = refl
-        go false = refl
-
-    pub grows-taken : test o ≡ true → grows k (grown k (line o) l) (map line (select test (ring ((o + r) % slots) (n - r)))) ≡ grows k l (map line (select test (ring o n)))
-    unfolding grows rest
-    grows-taken e = rw (select-run, e)
-
-    pub grows-skipped : test o ≡ false → grows k l (map line (select test (ring ((o + r) % slots) (n - r)))) ≡ grows k l (map line (select test (ring o n)))
-    unfolding grows rest
-    grows-skipped e = rw (select-run, e)
+  pub grows-skipped : 0 < n → test o ≡ false
+      → grows k l (map line (select test (ring (next o) (n - 1)))) ≡ grows k l (map line (select test (ring o n)))
+  unfolding grows select
+  grows-skipped some e = rw (ring-step o n some, e)
 
   pub grows-none : n ≤ 0 → grows k l (map line (select test (ring o n))) ≡ l
   unfolding grows select
@@ -137,28 +81,23 @@ module _ (k : ℕ) (line : ℕ → Line) (test : ℕ → Bool) (o n : ℕ) (l : 
 pub record Walked (fs : List ℕ) (test : ℕ → Bool) (o count j n : ℕ) (r : List ℕ) : Type 0 where
   done : (i : ℕ) → i < slots → In i (ring o count) → In i (ring j n) ⊎ (flagOf r i ≡ test i)
   others : (i : ℕ) → i < slots → (In i (ring o count) → ⊥) → flagOf r i ≡ flagOf fs i
-  pub either : (i : ℕ) → i < slots → (flagOf r i ≡ flagOf fs i) ⊎ (flagOf r i ≡ test i)
+  either : (i : ℕ) → i < slots → (flagOf r i ≡ flagOf fs i) ⊎ (flagOf r i ≡ test i)
   within : (i : ℕ) → In i (ring j n) → In i (ring o count)
 
 pub walk-start : (fs : List ℕ) (test : ℕ → Bool) (o count : ℕ) → Walked fs test o count o count fs
 walk-start fs test o count = record { done = λ i h m. inl m; others = λ i h m. refl; either = λ i h. inl refl; within = λ i m. m }
 
 module _ (fs : List ℕ) (test : ℕ → Bool) (o count j n : ℕ) (r : List ℕ) (l : Walked fs test o count j n r) where
-  -- on by k slots, of which those after slot j stand as they should
-  pub walk-on : (k : ℕ) (r′ : List ℕ) → 1 ≤ k → k ≤ n → j + k ≤ slots → ((i : ℕ) → j < i → i < j + k → flagOf r i ≡ test i) → WithFlag r j (test j) r′
-      → Walked fs test o count ((j + k) % slots) (n - k) r′
-  walk-on k r′ least most inside stand new = record {
-    done = λ i h m. ⊎-elim (λ p. here i h (in-append i (ring j k) (ring ((j + k) % slots) (n - k)) (subst (In i) parts p))) (λ e. inr (given i h (eqb i j) refl e)) (l .done i h m);
-    others = λ i h m. other i h (λ e. m (l .within i (subst (In i) (sym parts) (in-left i (ring j k) _ (subst (λ (x : ℕ). In x (ring j k)) (sym e) first))))) ∙ l .others i h m;
+  pub walk-step : (r′ : List ℕ) → 0 < n → WithFlag r j (test j) r′ → Walked fs test o count (next j) (n - 1) r′
+  walk-step r′ some new = record {
+    done = λ i h m. ⊎-elim (λ k. here i h (subst (In i) step k)) (λ e. inr (given i h (eqb i j) refl e)) (l .done i h m);
+    others = λ i h m. other i h (λ e. m (l .within i (subst (In i) (sym step) (inl e)))) ∙ l .others i h m;
     either = λ i h. one i h (eqb i j) refl;
-    within = λ i m. l .within i (subst (In i) (sym parts) (in-right i (ring j k) (ring ((j + k) % slots) (n - k)) m));
+    within = λ i m. l .within i (subst (In i) (sym step) (inr m));
   }
     where
-      parts : ring j n ≡ ring j k ++ ring ((j + k) % slots) (n - k)
-      parts = ring-parts j n k (omega arith) most
-
-      first : In j (ring j k)
-      first = subst (In j) (sym (ring-step j k least)) (inl refl)
+      step : ring j n ≡ j ∷ ring (next j) (n - 1)
+      step = ring-step j n some
 
       other : (i : ℕ) → i < slots → (i ≡ j → ⊥) → flagOf r′ i ≡ flagOf r i
       other i h m = new i h ∙ ap (λ (b : Bool). cond b (test j) (flagOf r i)) (ne-eqb i j m)
@@ -174,15 +113,8 @@ module _ (fs : List ℕ) (test : ℕ → Bool) (o count j n : ℕ) (r : List ℕ
       one i h true e = inr (this i h (eqb-true i j e))
       one i h false e = let s = other i h (eqb-false i j e) in ⊎-elim (λ f. inl (s ∙ f)) (λ f. inr (s ∙ f)) (l .either i h)
 
-      among : (i : ℕ) → i < slots → In i (ring j k) → (t : Bool) → eqb i j ≡ t → flagOf r′ i ≡ test i
-      among i h m true e = this i h (eqb-true i j e)
-      among i h m false e =
-          let p = eqb-false i j e in
-          let b = run-in j k i (omega arith) inside m in
-          other i h p ∙ stand i (omega arith) (b .1)
-
-      here : (i : ℕ) → i < slots → In i (ring j k) ⊎ In i (ring ((j + k) % slots) (n - k)) → In i (ring ((j + k) % slots) (n - k)) ⊎ (flagOf r′ i ≡ test i)
-      here i h (inl m) = inr (among i h m (eqb i j) refl)
+      here : (i : ℕ) → i < slots → In i (j ∷ ring (next j) (n - 1)) → In i (ring (next j) (n - 1)) ⊎ (flagOf r′ i ≡ test i)
+      here i h (inl e) = inr (this i h e)
       here i h (inr m) = inl m
 
   -- a flag that was none before, of a slot that fails the test, is as it should be

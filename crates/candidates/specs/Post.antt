@@ -1,11 +1,11 @@
 -- What each function ensures. Memory that no engine wrote may hold anything, so what is read of it is said where the cells of the messages and the
 -- terms of the query rise, as those of any message and query do; the bounds hold whatever memory says. Assumes nothing.
-use Prim.Native.Nat.{ℕ, _+_, _%_, _≤_, _<_}
+use Prim.Native.Nat.{ℕ, _%_, _≤_, _<_}
 use mathlib.Core.Path.{_≡_}
 use mathlib.Core.Bool.{Bool, true, false, cond, _&&_}
 use mathlib.Core.List.{List, [], _∷_, map}
 use lib.ListN.{take, getD}
-use lib.Dec.{eqb, ltb}
+use lib.Dec.{eqb}
 use Rattle.paper.specs.Frame.{Pair}
 use Rattle.paper.specs.Order.{In}
 use Rattle.paper.specs.Rank.{Line}
@@ -39,13 +39,6 @@ WithBit word k b r = (i : ℕ) → i < 32 → getD (bits 32 r) i false ≡ cond 
 
 abbrev pub WithFlag : List ℕ → ℕ → Bool → List ℕ → Type 0
 WithFlag fs j b r = (i : ℕ) → i < slots → flagOf r i ≡ cond (eqb i j) b (flagOf fs i)
-
--- the r slots from slot j on, of n, but for slot j itself, aren't flagged
-pub record Run (fs : List ℕ) (j n r : ℕ) : Type 0 where
-  pub least : 1 ≤ r
-  pub most : r ≤ n
-  pub within : j + r ≤ slots
-  pub none : (i : ℕ) → j < i → i < j + r → flagOf fs i ≡ false
 
 -- the flags without those of n slots from slot o on
 pub record Without (fs : List ℕ) (o n : ℕ) (r : List ℕ) : Type 0 where

@@ -18,6 +18,26 @@ use Rattle.candidates.specs.Match.{exceedsCells, reachedSlots, AllRising}
 use Rattle.candidates.proofs.MatchLaws.{exceeds-stored, all-rising, reached-stored, select-agree, taken-slots}
 use Rattle.query.specs.Post.{Over}
 
+-- ---- in two lists
+
+pub in-append : {A : Type 0} (a : A) (xs ys : List A) → In a (xs ++ ys) → In a xs ⊎ In a ys
+in-append a [] ys m = inr m
+in-append a (x ∷ xs) ys (inl e) = inl (inl e)
+in-append a (x ∷ xs) ys (inr m) = go (in-append a xs ys m)
+  where
+    go : In a xs ⊎ In a ys → In a (x ∷ xs) ⊎ In a ys
+    go (inl i) = inl (inr i)
+    go (inr i) = inr i
+
+pub in-left : {A : Type 0} (a : A) (xs ys : List A) → In a xs → In a (xs ++ ys)
+in-left a [] ys m = absurd m
+in-left a (x ∷ xs) ys (inl e) = inl e
+in-left a (x ∷ xs) ys (inr m) = inr (in-left a xs ys m)
+
+pub in-right : {A : Type 0} (a : A) (xs ys : List A) → In a ys → In a (xs ++ ys)
+in-right a [] ys m = m
+in-right a (x ∷ xs) ys m = inr (in-right a xs ys m)
+
 -- ---- messages within their ranges
 
 pub messages-in : (m : Message) (ms : List Message) → Messages ms → In m ms → Pairs countWidth mostPairs (m .pairs)

@@ -34,10 +34,9 @@ use Rattle.candidates.specs.Flags.{flagOf, inRing}
 use Rattle.candidates.specs.Match.{exceedsCells, lowSlots, AllRising}
 use Rattle.candidates.specs.Post.{termsOf, Rising, Low}
 use Rattle.candidates.proofs.MatchLaws.{in-ring, ring-in, score-stored}
-use Rattle.candidates.proofs.WalkLaws.{in-append, in-left, in-right}
 use Rattle.query.specs.Record.{listedIn, thresholdsIn, serialsIn, scoresIn, thresholds, flags, list, candidates, keptOf, Holds}
 use Rattle.query.specs.Post.{Is, LoadedQuery, LoadedThresholds, LoadedList, arriving, Arriving, Reached, Arrived, NewestLow, Stands, KeptList, Change, Updated}
-use Rattle.query.proofs.ChosenLaws.{slots-rise, chosen, serials-of}
+use Rattle.query.proofs.ChosenLaws.{in-append, in-left, in-right, slots-rise, chosen, serials-of}
 use Rattle.query.proofs.KeptLaws.{over-kept}
 use Rattle.query.proofs.RecordLaws.{says-same}
 use Rattle.query.proofs.SettleLaws.{Sixteen, last-positive}

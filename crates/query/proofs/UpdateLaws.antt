@@ -28,11 +28,10 @@ use Rattle.candidates.specs.Match.{exceedsCells, reachedSlots, AllRising}
 use Rattle.candidates.specs.Flags.{flagOf, inRing}
 use Rattle.candidates.specs.Post.{termsOf, Rising, exceedsIn, Exceeding, Reaching}
 use Rattle.candidates.proofs.MatchLaws.{in-ring, ring-in}
-use Rattle.candidates.proofs.WalkLaws.{in-append, in-left, in-right}
 use Rattle.candidates.proofs.TermLaws.{exceeds-missing}
 use Rattle.query.specs.Record.{listedIn, thresholdsIn, thresholds, flags, list, candidates, keptOf, Holds}
 use Rattle.query.specs.Post.{Is, LoadedQuery, LoadedThresholds, Over, arriving, Arriving, Reached, Arrived, Change, reaches, SettledFrom, HasTerms, Covers, Shares, Updated}
-use Rattle.query.proofs.ChosenLaws.{messages-parts, slots-rise, slots-reached, reached-append, unreached-slot}
+use Rattle.query.proofs.ChosenLaws.{in-append, in-left, in-right, messages-parts, slots-rise, slots-reached, reached-append, unreached-slot}
 use Rattle.query.proofs.SettleLaws.{lt-or-ge}
 
 -- ---- the query as it is loaded

@@ -44,15 +44,6 @@ pub fn following(j: usize) -> usize
     if next < SLOTS { next } else { 0 }
 }
 
-// The slot so many after a slot that it doesn't pass the ring's end.
-pub fn onward(j: usize, step: usize) -> usize
-    requires { ⌜ j + step ≤ slots ⌝ }
-    ensures { λ r. ⌜ r ≡ (j + step) % slots ⌝ }
-{
-    let next = j + step;
-    if next < SLOTS { next } else { 0 }
-}
-
 // The time of the message in slot j.
 fn time_in(state: &[u8], j: usize) -> u32
     requires { ⌜ (length (now state) ≡ stateLength) × (j < slots) ⌝ }

@@ -68,8 +68,7 @@ pub fn pow2(k: usize) -> u32
     1u32 << k
 }
 
-// The lesser of two.
-pub fn lesser(a: usize, b: usize) -> usize
+fn lesser(a: usize, b: usize) -> usize
     ensures { λ r. ⌜ r ≡ min a b ⌝ }
 {
     if a < b { a } else { b }
