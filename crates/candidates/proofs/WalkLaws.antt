@@ -1,10 +1,9 @@
 -- A walk over the window from its oldest slot on: one law for each way that a turn goes. Assumes nothing.
 use Prim.Native.Nat.{ℕ, _-_, _≤_, _<_}
 use mathlib.Core.Path.{_≡_, refl, sym, ap, ap₂, _∙_, subst}
-use mathlib.Core.Bool.{Bool, true, false, cond, _&&_, false≢true}
+use mathlib.Core.Bool.{Bool, true, false, cond}
 use mathlib.Core.Logic.{_⊎_, inl, inr, ⊎-elim}
 use mathlib.Core.List.{List, _∷_, map}
-use lib.ListN.{replicate}
 use lib.Dec.{eqb}
 use borrow.Author.Tests.{lt-ltb, le-ltb, eqb-true, eqb-false, eq-eqb, ne-eqb}
 use Rattle.paper.specs.Frame.{Pair}
@@ -17,10 +16,8 @@ use Rattle.window.specs.Layout.{slots}
 use Rattle.window.specs.Slot.{slot, next, ring, window}
 use Rattle.window.proofs.RingLaws.{ring-step, ring-none}
 use Rattle.candidates.specs.Match.{scoreCells, exceedsCells, reachedSlots, lowSlots, AllRising}
-use Rattle.candidates.specs.Flags.{flagOf, inRing}
+use Rattle.candidates.specs.Flags.{flagOf}
 use Rattle.candidates.specs.Post.{WithFlag, grows}
-use Rattle.candidates.proofs.FlagLaws.{no-flags}
-use Rattle.candidates.proofs.MatchLaws.{in-ring, ring-in}
 
 module _ (w : List ℕ) (o n : ℕ) (some : 0 < n) where
   window-step : window w o n ≡ slot w o ∷ window w (next o) (n - 1)
@@ -81,7 +78,7 @@ module _ (k : ℕ) (line : ℕ → Line) (test : ℕ → Bool) (o n : ℕ) (l : 
 pub record Walked (fs : List ℕ) (test : ℕ → Bool) (o count j n : ℕ) (r : List ℕ) : Type 0 where
   done : (i : ℕ) → i < slots → In i (ring o count) → In i (ring j n) ⊎ (flagOf r i ≡ test i)
   others : (i : ℕ) → i < slots → (In i (ring o count) → ⊥) → flagOf r i ≡ flagOf fs i
-  either : (i : ℕ) → i < slots → (flagOf r i ≡ flagOf fs i) ⊎ (flagOf r i ≡ test i)
+  pub either : (i : ℕ) → i < slots → (flagOf r i ≡ flagOf fs i) ⊎ (flagOf r i ≡ test i)
   within : (i : ℕ) → In i (ring j n) → In i (ring o count)
 
 pub walk-start : (fs : List ℕ) (test : ℕ → Bool) (o count : ℕ) → Walked fs test o count o count fs
@@ -117,10 +114,6 @@ module _ (fs : List ℕ) (test : ℕ → Bool) (o count j n : ℕ) (r : List ℕ
       here i h (inl e) = inr (this i h e)
       here i h (inr m) = inl m
 
-  -- a flag that was none before, of a slot that fails the test, is as it should be
-  pub walk-false : (i : ℕ) → i < slots → flagOf fs i ≡ false → test i ≡ false → flagOf r i ≡ test i
-  walk-false i h e f = ⊎-elim (λ p. p ∙ e ∙ sym f) (λ p. p) (l .either i h)
-
   pub walk-here : 0 < n → In j (ring o count)
   walk-here some = l .within j (subst (In j) (sym (ring-step j n some)) (inl refl))
 
@@ -138,12 +131,3 @@ flag-stands r j b e i h = go (eqb i j) refl
     go : (t : Bool) → eqb i j ≡ t → flagOf r i ≡ cond t b (flagOf r i)
     go true q = ap (flagOf r) (eqb-true i j q) ∙ e
     go false q = refl
-
--- whoever is in the window has the flag of the test, and nobody else has one
-pub scanned : (test : ℕ → Bool) (o count j n : ℕ) (r : List ℕ) → o < slots → n ≤ 0 → Walked (replicate 9 0) test o count j n r
-    → (i : ℕ) → i < slots → flagOf r i ≡ (inRing o count i && test i)
-scanned test o count j n r ho none v i h = go (inRing o count i) refl
-  where
-    go : (b : Bool) → inRing o count i ≡ b → flagOf r i ≡ (b && test i)
-    go true e = walk-inside (replicate 9 0) test o count j n r v none i h (ring-in o count i ho h e)
-    go false e = walk-outside (replicate 9 0) test o count j n r v none i h (λ m. false≢true (sym e ∙ in-ring o count i ho m .1)) ∙ no-flags 9 i

@@ -1,17 +1,17 @@
 -- What each function ensures. Memory that no engine wrote may hold anything, so what is read of it is said where the cells of the messages and the
 -- terms of the query rise, as those of any message and query do; the bounds hold whatever memory says. Assumes nothing.
-use Prim.Native.Nat.{ℕ, _%_, _≤_, _<_}
+use Prim.Native.Nat.{ℕ, _*_, _%_, _≤_, _<_}
 use mathlib.Core.Path.{_≡_}
 use mathlib.Core.Bool.{Bool, true, false, cond, _&&_}
 use mathlib.Core.List.{List, [], _∷_, map}
 use lib.ListN.{take, getD}
-use lib.Dec.{eqb}
+use lib.Dec.{eqb, ltb}
 use Rattle.paper.specs.Frame.{Pair}
 use Rattle.paper.specs.Order.{In}
 use Rattle.paper.specs.Rank.{Line}
 use Rattle.paper.specs.Sort.{select}
 use Rattle.paper.specs.Write.{side-by-side}
-use Rattle.wire.specs.Bits.{bits}
+use Rattle.wire.specs.Bits.{val, bits}
 use Rattle.impact.specs.Cell.{RisingCells, RisingTerms}
 use Rattle.rank.specs.declared.Ranked.{Ranked}
 use Rattle.rank.specs.Listing.{linesOf, Tidy, grown}
@@ -20,7 +20,7 @@ use Rattle.window.specs.Terms.{termLimit, inSet}
 use Rattle.window.specs.Slot.{slot, ring, window}
 use Rattle.candidates.specs.declared.Query.{Query}
 use Rattle.candidates.specs.Match.{scoreCells, exceedsCells, reachedSlots, lowSlots, scored, AllRising}
-use Rattle.candidates.specs.Flags.{flagOf, inRing}
+use Rattle.candidates.specs.Flags.{flagOf, inRing, spelled}
 
 -- ---- a query
 
@@ -90,18 +90,26 @@ pub record RankedBy (w : List ℕ) (first count : ℕ) (fs : List ℕ) (q : Quer
 -- ---- the flags of those that stay candidates
 
 -- whether slot j stays a candidate
-abbrev pub stays : List ℕ → List ℕ → Query → List ℕ → ℕ → Bool
-stays w fs q hs j = flagOf fs j && exceedsIn w q hs j
+abbrev pub stays : List ℕ → ℕ → ℕ → List ℕ → Query → List ℕ → ℕ → Bool
+stays w first count fs q hs j = inRing first count j && flagOf fs j && exceedsIn w q hs j
 
-abbrev pub Staying : List ℕ → ℕ → List ℕ → Query → List ℕ → Bool → Type 0
-Staying w j fs q hs r = RisingCells (slot w j .cells) → Rising q → r ≡ stays w fs q hs j
+-- the same of any number: past the ring nothing stays
+abbrev pub kept : List ℕ → ℕ → ℕ → List ℕ → Query → List ℕ → ℕ → Bool
+kept w first count fs q hs j = ltb j slots && stays w first count fs q hs j
 
 -- the cells of every slot in the window rise
 abbrev pub RisingRing : List ℕ → ℕ → ℕ → Type 0
 RisingRing w first count = (j : ℕ) → j < slots → inRing first count j ≡ true → RisingCells (slot w j .cells)
 
+pub record KeptBit (w : List ℕ) (first count : ℕ) (fs : List ℕ) (q : Query) (hs : List ℕ) (j r : ℕ) : Type 0 where
+  pub small : r < 2
+  pub right : RisingRing w first count → Rising q → r ≡ val (kept w first count fs q hs j)
+
+abbrev pub SiftedWord : List ℕ → ℕ → ℕ → List ℕ → Query → List ℕ → ℕ → ℕ → Type 0
+SiftedWord w first count fs q hs g r = RisingRing w first count → Rising q → r ≡ spelled (kept w first count fs q hs) (32 * g) 32
+
 pub record Sifted (w : List ℕ) (first count : ℕ) (fs : List ℕ) (q : Query) (hs : List ℕ) (r : List ℕ) : Type 0 where
-  pub right : RisingRing w first count → Rising q → (j : ℕ) → j < slots → flagOf r j ≡ (inRing first count j && stays w fs q hs j)
+  pub right : RisingRing w first count → Rising q → (j : ℕ) → j < slots → flagOf r j ≡ stays w first count fs q hs j
 
 -- ---- the window scanned
 

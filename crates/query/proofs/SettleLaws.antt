@@ -172,7 +172,7 @@ module _ {w : List ℕ} {q o n : ℕ} {ms : List Message} {query : Rank.Query} {
 -- ---- what is stored at the end
 
 -- a middle test that the other two imply
-and-drop : (a b c : Bool) → (a ≡ true → c ≡ true → b ≡ true) → (a && (b && c)) ≡ (a && c)
+and-drop : (a b c : Bool) → (a ≡ true → c ≡ true → b ≡ true) → (a && b && c) ≡ (a && c)
 and-drop true true c h = refl
 and-drop true false false h = refl
 and-drop true false true h = absurd (false≢true (h refl refl))
@@ -212,7 +212,7 @@ module _ {w : List ℕ} {q o n : ℕ} {fs : List ℕ} {r : Query} {hs hs′ : Li
   flagged j h =
       ap (λ (xs : List ℕ). flagOf xs j) (flags-stored kept)
       ∙ sifted .right (rising-ring w o n ho (over-rising (ready .over))) (ready .is .rising) j h
-      ∙ ap (λ (qs : List Pair). inRing o n j && (flagOf fs j && exceedsCells qs (take (r .n) hs′) (slot w j .cells))) (ready .is .terms)
+      ∙ ap (λ (qs : List Pair). inRing o n j && flagOf fs j && exceedsCells qs (take (r .n) hs′) (slot w j .cells)) (ready .is .terms)
       ∙ and-drop (inRing o n j) (flagOf fs j) (exceedsCells (query .terms) (take (r .n) hs′) (slot w j .cells)) (taken j h)
       ∙ rw (first-ones, slot-kept (kept .keeps) j (inl (omega arith)))
 
