@@ -13,9 +13,9 @@ use lib.Dec.{eqb, ltb}
 use borrow.Author.Tests.{ltb-true, ltb-false, eqb-true, eqb-false, eq-eqb, ne-eqb}
 use lib.Pow.{pow-mono, pow-pos, pow-add, high, shr-lt}
 use lib.Arith.{digits-lt}
+use Rattle.paper.specs.Layout.{slots}
 use Rattle.wire.specs.Bits.{val, odd, bits}
 use Rattle.wire.proofs.BitLaws.{val-lt, odd-val, odd-skip, length-bits, bits-add, bits-skip, bits-mod}
-use Rattle.window.specs.Layout.{slots}
 use Rattle.candidates.specs.Flags.{flagOf, spelled}
 use Rattle.candidates.specs.Post.{WithBit, WithFlag}
 

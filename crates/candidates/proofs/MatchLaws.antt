@@ -17,13 +17,13 @@ use Rattle.paper.specs.Sort.{select, inserts}
 use Rattle.paper.specs.Sound.{Messages}
 use Rattle.paper.specs.Threshold.{exceeds, reached}
 use Rattle.paper.specs.Window.{Message}
+use Rattle.paper.specs.Layout.{slots}
 use Rattle.paper.proofs.RankLaws.{ranking-more}
 use Rattle.paper.proofs.SortLaws.{select-map}
 use Rattle.impact.specs.Cell.{RisingCells}
 use Rattle.impact.proofs.CellLaws.{lookup-cells, rising-cells}
 use Rattle.rank.specs.Listing.{grown}
 use Rattle.rank.proofs.PaperLaws.{lines-grown}
-use Rattle.window.specs.Layout.{slots}
 use Rattle.window.specs.Slot.{Slot, slot, stored, next, ring, window}
 use Rattle.candidates.specs.Match.{scoreCells, exceedsCells, reachedSlots, scored, AllRising}
 use Rattle.candidates.specs.Flags.{inRing}

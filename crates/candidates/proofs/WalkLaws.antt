@@ -10,9 +10,9 @@ use Rattle.paper.specs.Frame.{Pair}
 use Rattle.paper.specs.Order.{In}
 use Rattle.paper.specs.Rank.{Line}
 use Rattle.paper.specs.Sort.{select}
+use Rattle.paper.specs.Layout.{slots}
 use Rattle.impact.specs.Cell.{RisingCells}
 use Rattle.rank.specs.Listing.{grown}
-use Rattle.window.specs.Layout.{slots}
 use Rattle.window.specs.Slot.{slot, next, ring, window}
 use Rattle.window.proofs.RingLaws.{ring-step, ring-none}
 use Rattle.candidates.specs.Match.{scoreCells, exceedsCells, reachedSlots, lowSlots, AllRising}

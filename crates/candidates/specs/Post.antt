@@ -11,11 +11,11 @@ use Rattle.paper.specs.Order.{In}
 use Rattle.paper.specs.Rank.{Line}
 use Rattle.paper.specs.Sort.{select}
 use Rattle.paper.specs.Write.{side-by-side}
+use Rattle.paper.specs.Layout.{slots}
 use Rattle.wire.specs.Bits.{val, bits}
 use Rattle.impact.specs.Cell.{RisingCells, RisingTerms}
 use Rattle.rank.specs.declared.Ranked.{Ranked}
 use Rattle.rank.specs.Listing.{linesOf, Tidy, grown}
-use Rattle.window.specs.Layout.{slots}
 use Rattle.window.specs.Terms.{termLimit, inSet}
 use Rattle.window.specs.Slot.{slot, ring, window}
 use Rattle.candidates.specs.declared.Query.{Query}

@@ -5,11 +5,10 @@ use mathlib.Core.Path.{_≡_, ap, _∙_}
 use mathlib.Core.List.{List}
 use lib.ListN.{length, set, length-set}
 use lib.Seq.{getD-set-same, getD-set-other}
-use Rattle.paper.specs.Log.{stateLength}
+use Rattle.paper.specs.Layout.{stateLength, slots, clockAt, oldestAt, countAt}
 use Rattle.memory.specs.Words.{words, putWord}
 use Rattle.memory.proofs.WordLaws.{words-length, put-word, put-length}
 use Rattle.memory.proofs.KeepsLaws.{keeps-refl, keeps-more}
-use Rattle.window.specs.Layout.{slots, clockAt, oldestAt, countAt}
 use Rattle.engine.specs.Inner.{PutCursor}
 
 -- in words

@@ -8,13 +8,13 @@ use mathlib.Core.List.{List, map}
 use lib.ListN.{getD}
 use lib.Dec.{ltb}
 use borrow.Author.Tests.{lt-ltb, le-ltb, ltb-true, ltb-false}
-use Rattle.paper.specs.Frame.{Frame, Pair, Valid}
+use Rattle.paper.specs.Frame.{Frame, Pair, Valid, numbers}
 use Rattle.paper.specs.Frame.Frame.{message, tick}
-use Rattle.paper.specs.Log.{Log, numbers, inForceAt, timeOf, judgeKind, judgeFrame, accept}
+use Rattle.paper.specs.Layout.{slots, lifeAt, clockAt}
+use Rattle.paper.specs.Log.{Log, inForceAt, timeOf, judgeKind, judgeFrame, accept}
 use Rattle.paper.proofs.LogLaws.{stays}
 use Rattle.paper.proofs.WindowLaws.{staying-none}
 use Rattle.memory.specs.Words.{words}
-use Rattle.window.specs.Layout.{slots, lifeAt, clockAt}
 use Rattle.window.specs.Slot.{stored, window, holdsSerial}
 use Rattle.window.specs.Cursor.{Loaded, Advanced, Roomy, Moved}
 use Rattle.window.proofs.RingLaws.{moved-below, moved-trans}

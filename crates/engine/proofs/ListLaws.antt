@@ -8,13 +8,14 @@ use mathlib.Core.Option.{Option, none, some}
 use lib.ListN.{length, getD, List·getD-eq-default}
 use lib.Dec.{eqb}
 use borrow.Author.Tests.{eq-eqb}
+use Rattle.paper.specs.Frame.{numbers}
 use Rattle.paper.specs.Rank.{Query, ranking, lines}
-use Rattle.paper.specs.Log.{Log, stateLength, numbers, queryAt, inUse, inForceNow, judgeList}
+use Rattle.paper.specs.Layout.{stateLength, recordAt}
+use Rattle.paper.specs.Log.{Log, queryAt, inUse, inForceNow, judgeList}
 use Rattle.paper.specs.Log as Log
 use Rattle.memory.specs.Words.{words}
 use Rattle.rank.specs.declared.Ranked.{Ranked}
 use Rattle.rank.specs.Listing.{linesOf, Tidy, Empty}
-use Rattle.window.specs.Layout.{recordAt}
 use Rattle.query.specs.Record.{list, HoldsAt, Holds}
 use Rattle.query.specs.Post.{LoadedList}
 use Rattle.engine.specs.Represents.{Represents, oldestOf, countOf}

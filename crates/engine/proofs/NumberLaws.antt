@@ -7,12 +7,12 @@ use mathlib.Core.List.{List}
 use mathlib.Core.Option.{Option, none, some}
 use lib.ListN.{getD}
 use lib.Dec.{eqb}
-use Rattle.paper.specs.Frame.{Pair}
+use Rattle.paper.specs.Frame.{Pair, numbers}
 use Rattle.paper.specs.Frame.Frame.{register, unregister}
 use Rattle.paper.specs.Rank.{Query}
-use Rattle.paper.specs.Log.{Log, numbers, queryAt, inUse, judgeFrame}
+use Rattle.paper.specs.Layout.{recordAt, clockAt}
+use Rattle.paper.specs.Log.{Log, queryAt, inUse, judgeFrame}
 use Rattle.memory.specs.Words.{words}
-use Rattle.window.specs.Layout.{recordAt, clockAt}
 use Rattle.window.specs.Cursor.{Loaded}
 use Rattle.query.specs.Post.{Registered, Cleared}
 use Rattle.engine.specs.declared.Reply.{Reply}

@@ -11,15 +11,15 @@ use lib.ListN.{length, getD}
 use lib.Dec.{eqb, ltb}
 use borrow.Author.Count.{below-more}
 use borrow.Author.Tests.{ltb-true}
+use Rattle.paper.specs.Frame.{numbers}
 use Rattle.paper.specs.Rank.{Query}
 use Rattle.paper.specs.Window.{Message}
-use Rattle.paper.specs.Log.{numbers}
 use Rattle.paper.specs.Sound.{Terms, Queries}
 use Rattle.paper.specs.Threshold.{reached}
+use Rattle.paper.specs.Layout.{slots, recordAt}
 use Rattle.paper.specs.Demand3.{bitmap}
 use Rattle.memory.specs.Keeps.{Keeps}
 use Rattle.memory.proofs.KeepsLaws.{keeps-refl, keeps-trans, keeps-wider}
-use Rattle.window.specs.Layout.{slots, recordAt}
 use Rattle.window.specs.Slot.{Slot, slot}
 use Rattle.window.specs.Terms.{inSet, termOf}
 use Rattle.window.proofs.SlotLaws.{slot-kept, window-kept}

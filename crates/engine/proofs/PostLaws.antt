@@ -7,14 +7,14 @@ use mathlib.Core.List.{List}
 use lib.ListN.{length, getD, take, drop}
 use lib.Dec.{eqb}
 use borrow.Author.Tests.{eq-eqb, ne-eqb, eqb-true, eqb-false}
-use Rattle.paper.specs.Frame.{Frame, Shape, Valid, shape}
+use Rattle.paper.specs.Frame.{Frame, Shape, Valid, shape, numbers}
 use Rattle.paper.specs.Frame.Shape.{refused, accepted}
-use Rattle.paper.specs.Log.{Log, stateLength, numbers, judgeShape, judgeFrame, judge, accept, acceptShape, after, departuresShape, departures}
+use Rattle.paper.specs.Layout.{stateLength, recordAt, recordWords}
+use Rattle.paper.specs.Log.{Log, judgeShape, judgeFrame, judge, accept, acceptShape, after, departuresShape, departures}
 use Rattle.paper.specs.Demand3.{marked, marksShape, markedShape, markedBy, replyTo}
 use Rattle.paper.proofs.FrameLaws.{shape-valid, shape-number}
 use Rattle.memory.specs.Words.{words}
 use Rattle.memory.proofs.WordLaws.{same-bytes}
-use Rattle.window.specs.Layout.{recordAt, recordWords}
 use Rattle.engine.specs.declared.Reply.{Reply}
 use Rattle.engine.specs.Represents.{Represents, keeping}
 use Rattle.engine.specs.Post.{callOf, replyOf, recordBytes, FrameRight, FramePost}

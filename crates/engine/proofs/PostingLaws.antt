@@ -7,7 +7,8 @@ use mathlib.Core.List.{List, map}
 use lib.ListN.{length}
 use lib.Dec.{ltb, leb}
 use borrow.Author.Tests.{eq-eqb, lt-ltb, le-ltb, le-leb, lt-leb}
-use Rattle.paper.specs.Log.{Log, stateLength, inForceNow, posted, judgePostings}
+use Rattle.paper.specs.Layout.{stateLength}
+use Rattle.paper.specs.Log.{Log, inForceNow, posted, judgePostings}
 use Rattle.paper.proofs.LogLaws.{in-force-valid}
 use Rattle.memory.specs.Words.{words}
 use Rattle.window.specs.Slot.{stored, window}

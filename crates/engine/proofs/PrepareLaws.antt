@@ -11,7 +11,7 @@ use lib.Dec.{ltb}
 use borrow.Author.Tests.{lt-ltb, ltb-true, ltb-false}
 use Rattle.paper.specs.Frame.{Pair}
 use Rattle.paper.specs.Frame.Frame.{message, tick}
-use Rattle.window.specs.Layout.{slots, slotAt, slotWords, recordAt}
+use Rattle.paper.specs.Layout.{slots, slotAt, slotWords, recordAt}
 use Rattle.window.specs.Slot.{Slot, slot, ring, window}
 use Rattle.window.specs.Cursor.{Moved, Written}
 use Rattle.window.proofs.RingLaws.{ring-last, moved-below, moved-end}

@@ -11,17 +11,17 @@ use lib.ListN.{length, getD, set, length-set}
 use lib.Seq.{getD-set-same, getD-set-other}
 use lib.Dec.{eqb, ltb}
 use borrow.Author.Tests.{eqb-true, eqb-false, ltb-true, ltb-false}
-use Rattle.paper.specs.Frame.{Pair, Valid}
+use Rattle.paper.specs.Frame.{Pair, Valid, numbers}
 use Rattle.paper.specs.Frame.Frame.{tick, register, unregister}
 use Rattle.paper.specs.Rank.{Query}
 use Rattle.paper.specs.Window.{Message}
-use Rattle.paper.specs.Log.{Log, numbers, queryAt, inForceNow, judgeFrame, accept, departs}
+use Rattle.paper.specs.Layout.{slots, recordAt, recordWords, oldestAt, countAt, clockAt}
+use Rattle.paper.specs.Log.{Log, queryAt, inForceNow, judgeFrame, accept, departs}
 use Rattle.paper.specs.Sound.{Sound, Terms}
 use Rattle.paper.specs.Demand3.{reachedBy, marked, bitmap}
 use Rattle.paper.proofs.Tests.{or-false}
 use Rattle.paper.proofs.LogLaws.{accept-sound, no-query, in-force-valid}
 use Rattle.memory.specs.Keeps.{Keeps}
-use Rattle.window.specs.Layout.{slots, recordAt, recordWords, oldestAt, countAt, clockAt}
 use Rattle.window.specs.Slot.{slot, stored, window}
 use Rattle.window.proofs.SlotLaws.{slot-kept, window-kept}
 use Rattle.query.specs.Record.{HoldsAt}

@@ -8,12 +8,13 @@ use mathlib.Core.Option.{Option, none, some}
 use lib.ListN.{length, getD}
 use lib.Dec.{eqb}
 use borrow.Author.Tests.{not-true, not-false}
+use Rattle.paper.specs.Frame.{numbers}
 use Rattle.paper.specs.Rank.{Query}
 use Rattle.paper.specs.Window.{Message}
-use Rattle.paper.specs.Log.{Log, numbers, queryAt, inUse, inForceNow}
+use Rattle.paper.specs.Layout.{recordAt}
+use Rattle.paper.specs.Log.{Log, queryAt, inUse, inForceNow}
 use Rattle.paper.specs.Sound.{Terms, Queries}
 use Rattle.paper.specs.Demand3.{SettledAt, AllSettled, reachedBy}
-use Rattle.window.specs.Layout.{recordAt}
 use Rattle.query.specs.Record.{keptOf, Holds, HoldsAt}
 use Rattle.query.proofs.RecordLaws.{in-use-is}
 use Rattle.engine.specs.Represents.{oldestOf, countOf, Represents, keeping}

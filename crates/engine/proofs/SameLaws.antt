@@ -13,8 +13,8 @@ use Rattle.paper.specs.Rank.{Query}
 use Rattle.paper.specs.Sort.{select}
 use Rattle.paper.specs.Window.{Message}
 use Rattle.paper.specs.Threshold.{Settled}
+use Rattle.paper.specs.Layout.{slots, recordAt, recordWords}
 use Rattle.rank.specs.Listing.{listed}
-use Rattle.window.specs.Layout.{slots, recordAt, recordWords}
 use Rattle.window.specs.Slot.{Slot, slot, ring, window, next}
 use Rattle.candidates.specs.Match.{exceedsCells}
 use Rattle.candidates.specs.Flags.{flagOf, inRing}

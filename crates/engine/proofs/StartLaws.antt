@@ -9,14 +9,15 @@ use lib.ListN.{length, getD, set, drop, replicate, length-set, length-replicate}
 use lib.Seq.{getD-set-same, getD-set-other, drop-length}
 use lib.Dec.{eqb, leb, ltb}
 use borrow.Author.Tests.{ltb-true, leb-true, eq-eqb, ne-eqb}
-use Rattle.paper.specs.Log.{fresh, stateLength, numbers, inForceNow, judgeStart}
+use Rattle.paper.specs.Frame.{numbers}
+use Rattle.paper.specs.Log.{fresh, inForceNow, judgeStart}
 use Rattle.paper.specs.Rank.{Query}
 use Rattle.paper.specs.Window.{inForce}
+use Rattle.paper.specs.Layout.{stateLength, recordAt, stateWords}
 use Rattle.paper.proofs.Tests.{and-true}
 use Rattle.paper.proofs.LogLaws.{fresh-sound}
 use Rattle.memory.specs.Words.{words, putWord}
 use Rattle.memory.proofs.WordLaws.{put-word, put-length}
-use Rattle.window.specs.Layout.{recordAt, stateWords}
 use Rattle.window.specs.Slot.{ring, stored, window}
 use Rattle.query.specs.Record.{HoldsAt}
 use Rattle.engine.specs.Represents.{Represents, oldestOf, countOf}

@@ -9,14 +9,14 @@ use mathlib.Core.List.{List, _++_, map, map-append, append-cancel-right}
 use mathlib.Core.Option.{Option, none, some}
 use lib.ListN.{length, getD, length-map}
 use borrow.Author.Tests.{le-ltb}
-use Rattle.paper.specs.Frame.{Frame, Valid}
+use Rattle.paper.specs.Frame.{Frame, Valid, numbers}
 use Rattle.paper.specs.Rank.{Query}
 use Rattle.paper.specs.Window.{Message}
-use Rattle.paper.specs.Log.{Log, numbers, queryAt, inForceNow, timeOf, judgeFrame, arrivals, accept, departs}
+use Rattle.paper.specs.Layout.{slots, clockAt, oldestAt, countAt, recordAt}
+use Rattle.paper.specs.Log.{Log, queryAt, inForceNow, timeOf, judgeFrame, arrivals, accept, departs}
 use Rattle.paper.specs.Sound.{Messages}
 use Rattle.paper.specs.Demand3.{marked, bitmap, names}
 use Rattle.paper.proofs.LogLaws.{stays, in-force-before, in-force-after, accept-sound, messages-parts, messages-append, in-force-valid}
-use Rattle.window.specs.Layout.{slots, clockAt, oldestAt, countAt, recordAt}
 use Rattle.window.specs.Slot.{Slot, slot, stored, ring, window}
 use Rattle.window.specs.Cursor.{Moved}
 use Rattle.window.proofs.RingLaws.{ring-length, moved-below, moved-parts}

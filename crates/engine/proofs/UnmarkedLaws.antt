@@ -7,12 +7,12 @@ use mathlib.Core.Option.{Option, none, some}
 use lib.ListN.{length}
 use lib.Seq.{getD-set-other}
 use borrow.Author.Tests.{eqb-false}
-use Rattle.paper.specs.Frame.{Frame}
+use Rattle.paper.specs.Frame.{Frame, numbers}
 use Rattle.paper.specs.Frame.Frame.{message, tick, register, unregister}
 use Rattle.paper.specs.Rank.{Query, serials}
 use Rattle.paper.specs.Window.{Message}
 use Rattle.paper.specs.Threshold.{candidates}
-use Rattle.paper.specs.Log.{Log, numbers, queryAt, inForceNow, accept, judgeFrame, departs, arrivals}
+use Rattle.paper.specs.Log.{Log, queryAt, inForceNow, accept, judgeFrame, departs, arrivals}
 use Rattle.paper.specs.Sound.{Terms}
 use Rattle.paper.specs.Demand3.{names, reachedBy, marked}
 use Rattle.paper.proofs.Tests.{or-false}

@@ -5,16 +5,16 @@ use mathlib.Core.Bool.{Bool, false}
 use mathlib.Core.List.{List, _++_}
 use mathlib.Core.Option.{Option, none, some}
 use lib.ListN.{length, getD}
-use Rattle.paper.specs.Frame.{Frame, Valid}
+use Rattle.paper.specs.Frame.{Frame, Valid, numbers}
 use Rattle.paper.specs.Rank.{Query}
 use Rattle.paper.specs.Window.{Message}
-use Rattle.paper.specs.Log.{Log, numbers, judgeFrame, accept, departs}
+use Rattle.paper.specs.Log.{Log, judgeFrame, accept, departs}
 use Rattle.paper.specs.Sound.{Queries}
 use Rattle.paper.specs.Threshold.{reached}
+use Rattle.paper.specs.Layout.{slots, clockAt, oldestAt, countAt, recordAt, recordWords}
 use Rattle.paper.specs.Demand3.{marked, bitmap}
 use Rattle.memory.specs.Words.{words}
 use Rattle.memory.specs.Keeps.{Keeps}
-use Rattle.window.specs.Layout.{slots, clockAt, oldestAt, countAt, recordAt, recordWords}
 use Rattle.window.specs.Cursor.{Written}
 use Rattle.query.specs.Record.{thresholds, HoldsAt}
 use Rattle.query.specs.Post.{Change}

@@ -4,14 +4,14 @@ use mathlib.Core.Path.{_≡_}
 use mathlib.Core.Bool.{false}
 use mathlib.Core.List.{List, [], _++_}
 use lib.ListN.{length, take, drop, replicate}
-use Rattle.paper.specs.Frame.{shape}
+use Rattle.paper.specs.Frame.{shape, numbers}
 use Rattle.paper.specs.Frame.Shape.{refused}
-use Rattle.paper.specs.Log.{Log, Call, stateLength, numbers, judgeStart, after, judgeList, listed, postingLength, posted, judgePostings}
+use Rattle.paper.specs.Layout.{stateLength, recordAt, recordWords}
+use Rattle.paper.specs.Log.{Log, Call, judgeStart, after, judgeList, listed, postingLength, posted, judgePostings}
 use Rattle.paper.specs.Demand3.{replyTo, markedBy}
 use Rattle.paper.specs.Demand3 as Demand3
 use Rattle.memory.specs.Words.{words, putWord}
 use Rattle.rank.specs.Listing.{linesOf, Tidy}
-use Rattle.window.specs.Layout.{recordAt, recordWords}
 use Rattle.posting.specs.Lines.{lineBytes}
 use Rattle.engine.specs.declared.Reply.{Reply}
 use Rattle.engine.specs.declared.Listing.{Listing}

@@ -6,12 +6,13 @@ use mathlib.Core.List.{List, map}
 use mathlib.Core.Option.{none, some}
 use lib.ListN.{length, getD}
 use lib.Dec.{eqb}
-use Rattle.paper.specs.Log.{Log, numbers, queryAt, inForceNow}
+use Rattle.paper.specs.Frame.{numbers}
+use Rattle.paper.specs.Layout.{slots, stateWords, capacityAt, lifeAt, clockAt, oldestAt, countAt, recordAt, sizeIn}
+use Rattle.paper.specs.Log.{Log, queryAt, inForceNow}
 use Rattle.paper.specs.Sound.{Sound}
 use Rattle.paper.specs.Demand3.{Keeping}
-use Rattle.window.specs.Layout.{slots, stateWords, capacityAt, lifeAt, clockAt, oldestAt, countAt, recordAt}
 use Rattle.window.specs.Slot.{stored, window}
-use Rattle.query.specs.Record.{sizeIn, keptOf, HoldsAt}
+use Rattle.query.specs.Record.{keptOf, HoldsAt}
 
 -- the window's first slot and how many it has, as the header says
 abbrev pub oldestOf : List ℕ → ℕ

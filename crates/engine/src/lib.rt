@@ -4,15 +4,15 @@ ghost use Prim.Native.Nat.{ℕ, _+_, _*_, _%_, _<_, _≤_, _^_};
 ghost use mathlib.Core.Bool.{_&&_};
 ghost use lib.Dec.{leb, ltb};
 ghost use lib.ListN.{length, getD, replicate};
-ghost use Rattle.paper.specs.Frame.{Frame};
+ghost use Rattle.paper.specs.Frame.{Frame, numbers};
 ghost use Rattle.paper.specs.Write.{side-by-side};
-ghost use Rattle.paper.specs.Log.{stateLength, numbers};
+ghost use Rattle.paper.specs.Layout.{stateLength, slots};
 ghost use Rattle.memory.specs.Words.{words};
-ghost use Rattle.window.specs.Layout.{slots};
 ghost use Rattle.engine.specs.Post.{StartPost, FramePost, ListPost, PostingsPost};
 ghost use Rattle.window.specs.Cursor.{Moved};
 ghost use Rattle.engine.specs.Inner.{PutCursor, Passed, Joined, Did, Ticked};
 use frame::Kind;
+use paper::layout;
 use rank::Ranked;
 use window::Cursor;
 
@@ -85,12 +85,12 @@ pub fn start(state: &mut [u8], capacity: u32, life: u32) -> u32
     if !within {
         return 11;
     }
-    if length != window::STATE {
+    if length != layout::STATE {
         return 12;
     }
     zeroed(state);
-    memory::put(state, 0, capacity);
-    memory::put(state, 1, life);
+    memory::put(state, layout::CAPACITY, capacity);
+    memory::put(state, layout::LIFE, life);
     0
 }
 
@@ -107,7 +107,7 @@ fn update_all(
     requires { ⌜ (gone < slots) × (first < slots) × (count < slots) ⌝ }
     ensures { λ r. ⌜ Passed numbers (words (now (state .entry))) gone departed first count newest r (words (now (state .exit))) ⌝ }
 {
-    let mut moved = [false; 1024];
+    let mut moved = [false; paper::TERMS];
     query::add_moved(state, gone, departed, newest, &mut moved);
     let mut marks: u32 = 0;
     let mut q: usize = 0;
@@ -137,7 +137,7 @@ fn capacity_of(state: &[u8]) -> u32
     requires { ⌜ length (now state) ≡ stateLength ⌝ }
     ensures { λ r. ⌜ (r ≤ 256) × (getD (words (now (state .entry))) 0 0 ≤ 256 → r ≡ getD (words (now (state .entry))) 0 0) ⌝ }
 {
-    let capacity = memory::get(state, 0);
+    let capacity = memory::get(state, layout::CAPACITY);
     if capacity < 256 { capacity } else { 256 }
 }
 
@@ -161,7 +161,7 @@ fn join(
     let oldest = after.oldest;
     let count = after.count;
     let departed = before.count - count;
-    let newest = (oldest + count) % window::SLOTS;
+    let newest = (oldest + count) % layout::SLOTS;
     window::put_message(state, newest, time, serial, m, terms, counts);
     put_cursor(state, time, oldest, count + 1);
     let marks = update_all(state, gone, departed, oldest, count + 1, newest);
@@ -189,7 +189,7 @@ fn message(
     if time < before.clock {
         return refused(7);
     }
-    let life = memory::get(state, 1);
+    let life = memory::get(state, layout::LIFE);
     let aged = before.advanced(state, life, time);
     if window::has_serial(state, aged.oldest, aged.count, serial) {
         return refused(8);
@@ -206,13 +206,13 @@ fn advance(state: &mut [u8], time: u32) -> Reply
     let before = Cursor::load(state);
     let gone = before.oldest;
     let had = before.count;
-    let life = memory::get(state, 1);
+    let life = memory::get(state, layout::LIFE);
     let after = before.advanced(state, life, time);
     let oldest = after.oldest;
     let count = after.count;
     let departed = had - count;
     put_cursor(state, time, oldest, count);
-    let marks = update_all(state, gone, departed, oldest, count, window::SLOTS);
+    let marks = update_all(state, gone, departed, oldest, count, layout::SLOTS);
     Reply {
         number: 0,
         marks,
@@ -224,7 +224,7 @@ fn tick(state: &mut [u8], time: u32) -> Reply
     requires { ⌜ length (now state) ≡ stateLength ⌝ }
     ensures { λ r. ⌜ Did (Frame.tick time) (now (state .entry)) r (now (state .exit)) ⌝ }
 {
-    if time < memory::get(state, 2) {
+    if time < memory::get(state, layout::CLOCK) {
         return refused(7);
     }
     advance(state, time)
@@ -244,7 +244,7 @@ fn register(
     requires { ⌜ ((i : ℕ) → i < n → (getD terms i 0 < 1024) × (getD weights i 0 < 16)) ⌝ }
     ensures { λ r. ⌜ Did (Frame.register time number k (side-by-side n terms weights)) (now (state .entry)) r (now (state .exit)) ⌝ }
 {
-    if time < memory::get(state, 2) {
+    if time < memory::get(state, layout::CLOCK) {
         return refused(7);
     }
     if query::in_use(state, number) {
@@ -267,7 +267,7 @@ fn unregister(state: &mut [u8], time: u32, number: usize) -> Reply
     requires { ⌜ number < 32 ⌝ }
     ensures { λ r. ⌜ Did (Frame.unregister time number) (now (state .entry)) r (now (state .exit)) ⌝ }
 {
-    if time < memory::get(state, 2) {
+    if time < memory::get(state, layout::CLOCK) {
         return refused(7);
     }
     if !query::in_use(state, number) {
@@ -285,7 +285,7 @@ fn unregister(state: &mut [u8], time: u32, number: usize) -> Reply
 pub fn frame(state: &mut [u8], bytes: &[u8]) -> Reply
     ensures { λ r. ⌜ FramePost (now (state .entry)) (now (bytes .entry)) r (now (state .exit)) ⌝ }
 {
-    if state.len() != window::STATE {
+    if state.len() != layout::STATE {
         return refused(12);
     }
     let parsed = frame::read(bytes);
@@ -313,7 +313,7 @@ pub fn frame(state: &mut [u8], bytes: &[u8]) -> Reply
 pub fn list(state: &[u8], number: u32) -> Listing
     ensures { λ r. ⌜ ListPost (now (state .entry)) number r ⌝ }
 {
-    if state.len() != window::STATE {
+    if state.len() != layout::STATE {
         return Listing {
             number: 12,
             list: Ranked::none(),
@@ -342,7 +342,7 @@ pub fn list(state: &[u8], number: u32) -> Listing
 pub fn postings(state: &[u8], term: u32, out: &mut [u8]) -> Found
     ensures { λ r. ⌜ PostingsPost (now (state .entry)) term (now (out .entry)) r (now (out .exit)) ⌝ }
 {
-    if state.len() != window::STATE {
+    if state.len() != layout::STATE {
         return Found {
             number: 12,
             count: 0,

@@ -6,7 +6,9 @@ use mathlib.Core.List.{List}
 use lib.ListN.{length}
 use lib.Dec.{leb}
 use borrow.Author.Tests.{leb-true, leb-false}
-use Rattle.paper.specs.Log.{Log, Call, stateLength, numbers, fresh, after, replay, judgeList, listed}
+use Rattle.paper.specs.Frame.{numbers}
+use Rattle.paper.specs.Layout.{stateLength}
+use Rattle.paper.specs.Log.{Log, Call, fresh, after, replay, judgeList, listed}
 use Rattle.paper.specs.Demand3.{replyTo, markedBy, Answered}
 use Rattle.paper.proofs.MarkLaws.{answered-by-log}
 use Rattle.memory.specs.Words.{words}

@@ -8,7 +8,8 @@ use lib.Dec.{eqb}
 use borrow.Author.Tests.{le-leb, lt-leb}
 use Rattle.paper.specs.Frame.{shape}
 use Rattle.paper.specs.Rank.{Line}
-use Rattle.paper.specs.Log.{Log, Call, stateLength, lent, judgeShape, judge, acceptShape, after, departuresShape, departures, inUse, queryAt, inForceNow, judgeList, listOf, listed}
+use Rattle.paper.specs.Layout.{stateLength}
+use Rattle.paper.specs.Log.{Log, Call, lent, judgeShape, judge, acceptShape, after, departuresShape, departures, inUse, queryAt, inForceNow, judgeList, listOf, listed}
 use Rattle.paper.specs.Demand3.{Keeping, Reply, marksShape, replyTo, markedShape, markedBy}
 
 module _ (needed state output : ℕ) where

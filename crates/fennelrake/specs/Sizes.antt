@@ -6,7 +6,8 @@ use lib.ListN.{length}
 use Rattle.wire.specs.Bits.{Bytes}
 use Rattle.paper.specs.Frame.{Frame, shape, messageHead, countWidth, mostPairs, bitsOf, bytesFor}
 use Rattle.paper.specs.Frame.Shape.{accepted}
-use Rattle.paper.specs.Log.{Log, stateLength, postingLength, posted}
+use Rattle.paper.specs.Layout.{stateLength}
+use Rattle.paper.specs.Log.{Log, postingLength, posted}
 use Rattle.fennelrake.specs.Entry.{frameAnswer, listAnswer}
 
 -- room for every frame that is accepted: a message of sixteen pairs is the longest

@@ -10,12 +10,12 @@ use lib.ListN.{length, set, replicate, length-set}
 use lib.Dec.{eqb, ltb}
 use borrow.Author.Tests.{ltb-false, eqb-true, eqb-false, ne-eqb}
 use Rattle.paper.proofs.Tests.{or-false, not-refused}
-use Rattle.paper.specs.Frame.{Pair, Frame, Shape, Valid, shape}
+use Rattle.paper.specs.Frame.{Pair, Frame, Shape, Valid, shape, numbers}
 use Rattle.paper.specs.Frame.Frame.{message, tick, register, unregister}
 use Rattle.paper.specs.Frame.Shape.{refused, accepted}
 use Rattle.paper.specs.Window.{Message, standing, inForce, departing}
 use Rattle.paper.specs.Rank.{Query}
-use Rattle.paper.specs.Log.{Log, Call, fresh, numbers, inForceNow, inForceAt, hasSerial, timeOf, judgeKind, judgeFrame, judgeShape, lent, judge, arrivals, queriesAfter, accept, acceptShape, after, replay, departs}
+use Rattle.paper.specs.Log.{Log, Call, fresh, inForceNow, inForceAt, hasSerial, timeOf, judgeKind, judgeFrame, judgeShape, lent, judge, arrivals, queriesAfter, accept, acceptShape, after, replay, departs}
 use Rattle.paper.specs.Sound.{From, Chronological, Distinct, Messages, Terms, Queries, Sound}
 use Rattle.paper.proofs.FrameLaws.{shape-valid}
 use Rattle.paper.proofs.WindowLaws.{staying, standing-true, in-force-append, departing-staying}

@@ -13,14 +13,14 @@ use lib.Pow.{pow-pos, pow-add, high}
 use borrow.Author.Tests.{eqb-true, ltb-true, ltb-false}
 use Rattle.wire.specs.Bits.{val, odd}
 use Rattle.wire.proofs.BitLaws.{odd-val, odd-skip}
-use Rattle.paper.specs.Frame.{Frame, Shape, shape}
+use Rattle.paper.specs.Frame.{Frame, Shape, shape, numbers}
 use Rattle.paper.specs.Frame.Frame.{message, tick, register, unregister}
 use Rattle.paper.specs.Frame.Shape.{refused, accepted}
 use Rattle.paper.specs.Window.{Message}
 use Rattle.paper.specs.Rank.{Query}
 use Rattle.paper.specs.Order.{In}
 use Rattle.paper.specs.Threshold.{Kept, reached}
-use Rattle.paper.specs.Log.{Log, Call, numbers, queryAt, inUse, inForceNow, lent, judgeShape, judgeFrame, judgeKind, judge, accept, acceptShape, after}
+use Rattle.paper.specs.Log.{Log, Call, queryAt, inUse, inForceNow, lent, judgeShape, judgeFrame, judgeKind, judge, accept, acceptShape, after}
 use Rattle.paper.specs.Demand3.{Keeping, SettledAt, AllSettled, names, reachedBy, marked, bitmap, Reply, marksShape, replyTo, markedShape, markedBy, movedShape, moved, ExceedsKept, Answered}
 use Rattle.paper.proofs.Tests.{not-refused}
 use Rattle.paper.proofs.ThresholdLaws.{reached-exactly}

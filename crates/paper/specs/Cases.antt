@@ -8,7 +8,8 @@ use Rattle.paper.specs.Frame.Frame.{message, tick, register, unregister}
 use Rattle.paper.specs.Frame.Shape.{refused, accepted}
 use Rattle.paper.specs.Impact.{impactIn}
 use Rattle.paper.specs.Rank.{Line}
-use Rattle.paper.specs.Log.{Log, Call, fresh, stateLength, judge, after, departures, listed}
+use Rattle.paper.specs.Layout.{stateLength}
+use Rattle.paper.specs.Log.{Log, Call, fresh, judge, after, departures, listed}
 
 pub data Case : Type 0 where
   -- the counts of a message's terms; the impact of each

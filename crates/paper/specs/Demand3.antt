@@ -7,14 +7,14 @@ use mathlib.Core.List.{List, [], _++_}
 use mathlib.Core.Option.{Option, none, some}
 use lib.Dec.{eqb}
 use Rattle.wire.specs.Bits.{odd}
-use Rattle.paper.specs.Frame.{Frame, Shape, shape}
+use Rattle.paper.specs.Frame.{Frame, Shape, shape, numbers}
 use Rattle.paper.specs.Frame.Frame.{message, tick, register, unregister}
 use Rattle.paper.specs.Frame.Shape.{refused, accepted}
 use Rattle.paper.specs.Window.{Message}
 use Rattle.paper.specs.Rank.{Query}
 use Rattle.paper.specs.Order.{In}
 use Rattle.paper.specs.Threshold.{Kept, Settled, reached, Exceeds}
-use Rattle.paper.specs.Log.{Log, Call, numbers, queryAt, inForceNow, arrivals, departs, judge, after, departures}
+use Rattle.paper.specs.Log.{Log, Call, queryAt, inForceNow, arrivals, departs, judge, after, departures}
 
 -- what an engine keeps: for each number nothing, or what it keeps of the query
 abbrev pub Keeping : Type 0

@@ -44,12 +44,19 @@ countWidth = 8
 abbrev pub weightWidth : ℕ
 weightWidth = 4
 
--- the most pairs of a message and terms of a query: what their fields can say
+-- the most pairs of a message, terms of a query and entries of a list: what their fields can say
 abbrev pub mostPairs : ℕ
 mostPairs = 16
 
 abbrev pub mostTerms : ℕ
 mostTerms = 8
+
+abbrev pub mostListed : ℕ
+mostListed = 16
+
+-- query numbers are 0 to 31
+abbrev pub numbers : ℕ
+numbers = 32
 
 -- m pairs, whose count or weight has w bits
 unfoldable pub pairWidths : ℕ → ℕ → List ℕ

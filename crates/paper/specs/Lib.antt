@@ -6,6 +6,7 @@ pub mod Sort
 pub mod Rank
 pub mod Order
 pub mod Threshold
+pub mod Layout
 pub mod Log
 pub mod Demand3
 pub mod Cases

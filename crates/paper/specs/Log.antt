@@ -6,21 +6,12 @@ use mathlib.Core.List.{List, [], _∷_, _++_}
 use mathlib.Core.Option.{Option, none, some}
 use lib.ListN.{length, getD, set, replicate}
 use lib.Dec.{eqb, leb, ltb}
-use Rattle.paper.specs.Frame.{Frame, Shape, shape}
+use Rattle.paper.specs.Frame.{Frame, Shape, shape, termWidth, numbers}
 use Rattle.paper.specs.Frame.Frame.{message, tick, register, unregister}
 use Rattle.paper.specs.Frame.Shape.{refused, accepted}
-use Rattle.paper.specs.Window.{Message, inForce, departing}
+use Rattle.paper.specs.Window.{Message, mostMessages, longestLife, inForce, departing}
 use Rattle.paper.specs.Rank.{Query, Line, ranking, postings, lines}
-
--- ---- sizes
-
--- query numbers are 0 to 31
-abbrev pub numbers : ℕ
-numbers = 32
-
--- the fixed length of the state memory (docs/STATE.md)
-abbrev pub stateLength : ℕ
-stateLength = 27232
+use Rattle.paper.specs.Layout.{stateLength}
 
 -- a posting written: serial and impact, four bytes each
 abbrev pub postingLength : ℕ
@@ -150,7 +141,7 @@ departures needed log c = cond (eqb (judge needed log c) 0) (departuresShape log
 -- "Starting: 11, 12." N is 1 to 256 messages and T 1 to 65,535 seconds.
 unfoldable pub judgeStart : ℕ → ℕ → ℕ → ℕ
 judgeStart N T state =
-    cond (ltb 0 N && leb N 256 && (ltb 0 T && leb T 65535))
+    cond (ltb 0 N && leb N mostMessages && (ltb 0 T && leb T longestLife))
     (cond (eqb state stateLength) 0 12)
     11
 
@@ -174,5 +165,5 @@ posted log t = lines (postings t (inForceNow log))
 unfoldable pub judgePostings : Log → ℕ → ℕ → ℕ → ℕ
 judgePostings log state output t =
     cond (eqb state stateLength)
-    (cond (ltb t (2 ^ 10)) (cond (leb (postingLength * length (posted log t)) output) 0 12) 5)
+    (cond (ltb t (2 ^ termWidth)) (cond (leb (postingLength * length (posted log t)) output) 0 12) 5)
     12

@@ -6,10 +6,10 @@ use mathlib.Core.Bool.{false}
 use mathlib.Core.List.{List, [], _∷_}
 use mathlib.Core.Option.{Option, none, some}
 use lib.ListN.{length}
-use Rattle.paper.specs.Frame.{Pairs, countWidth, weightWidth, mostPairs, mostTerms}
+use Rattle.paper.specs.Frame.{Pairs, countWidth, weightWidth, mostPairs, mostTerms, numbers}
 use Rattle.paper.specs.Window.{Message}
 use Rattle.paper.specs.Rank.{Query}
-use Rattle.paper.specs.Log.{Log, numbers, hasSerial, inForceNow}
+use Rattle.paper.specs.Log.{Log, hasSerial, inForceNow}
 
 -- every time is at least t
 abbrev pub From : ℕ → List Message → Type 0

@@ -7,6 +7,13 @@ use lib.ListN.{length}
 use lib.Dec.{leb, ltb}
 use Rattle.paper.specs.Frame.{Pair}
 
+-- "N is 1 to 256 messages and T 1 to 65,535 seconds"
+abbrev pub mostMessages : ℕ
+mostMessages = 256
+
+abbrev pub longestLife : ℕ
+longestLife = 65535
+
 -- An accepted message: its arrival time, serial and pairs of term and count.
 pub record Message : Type 0 where
   pub time : ℕ

@@ -1,1 +1,19 @@
-// What the engine promises, as definitions: specs/ follows the document, proofs/ has their laws. There is no code.
+// What the engine promises, as definitions: specs/ follows the document, proofs/ has their laws. The only code is the sizes that other code shares.
+pub mod layout;
+
+// The most pairs of a message, terms of a query and entries of a list.
+pub const MOST_PAIRS: usize = 16;
+
+pub const MOST_TERMS: usize = 8;
+
+pub const MOST_LISTED: usize = 16;
+
+// How many terms and how many query numbers there are.
+pub const TERMS: usize = 1024;
+
+pub const NUMBERS: usize = 32;
+
+// The most messages in force, and the most seconds that one is.
+pub const MOST_MESSAGES: usize = 256;
+
+pub const LONGEST_LIFE: usize = 65535;

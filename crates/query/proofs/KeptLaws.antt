@@ -6,12 +6,12 @@ use mathlib.Core.List.{List}
 use lib.ListN.{getD, take, drop}
 use lib.Seq.{take-take, getD-take, getD-drop}
 use Rattle.paper.specs.Window.{Message}
+use Rattle.paper.specs.Layout.{slots, recordAt, thresholdsIn}
 use Rattle.memory.specs.Keeps.{Keeps}
 use Rattle.rank.specs.declared.Ranked.{Ranked}
 use Rattle.rank.specs.Listing.{linesOf}
-use Rattle.window.specs.Layout.{slots, recordAt}
 use Rattle.window.proofs.SlotLaws.{window-kept}
-use Rattle.query.specs.Record.{thresholdsIn, thresholds, flags, list}
+use Rattle.query.specs.Record.{thresholds, flags, list}
 use Rattle.query.specs.Post.{StoredKept, Over}
 
 -- the slots lie below the records

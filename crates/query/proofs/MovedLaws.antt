@@ -6,7 +6,7 @@ use mathlib.Core.Bool.{Bool}
 use mathlib.Core.Logic.{_⊎_, inl, inr, ⊎-elim}
 use mathlib.Core.List.{List, _∷_}
 use Rattle.paper.specs.Order.{In}
-use Rattle.window.specs.Layout.{slots}
+use Rattle.paper.specs.Layout.{slots}
 use Rattle.window.specs.Slot.{slot, next, ring}
 use Rattle.window.specs.Terms.{termOf, Added}
 use Rattle.window.proofs.RingLaws.{ring-step, ring-none}

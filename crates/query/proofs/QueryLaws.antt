@@ -15,11 +15,11 @@ use Rattle.paper.specs.Rank as Rank
 use Rattle.paper.specs.Sound.{Terms}
 use Rattle.paper.specs.Threshold.{termAt, weightAt}
 use Rattle.paper.specs.Write.{side-by-side}
+use Rattle.paper.specs.Layout.{recordAt, sizeIn, pairsIn, thresholdsIn}
 use Rattle.paper.proofs.Tests.{and-true}
 use Rattle.impact.proofs.CellLaws.{rising-side}
-use Rattle.window.specs.Layout.{recordAt}
 use Rattle.candidates.specs.declared.Query.{Query}
-use Rattle.query.specs.Record.{sizeIn, pairsIn, thresholdsIn, Says}
+use Rattle.query.specs.Record.{Says}
 use Rattle.query.specs.Post.{Clamped, InRange, Is, LoadedQuery, LoadedThresholds}
 use Rattle.query.proofs.FillLaws.{Filled}
 

@@ -17,15 +17,15 @@ use Rattle.paper.specs.Rank.{Query}
 use Rattle.paper.specs.Sort.{select}
 use Rattle.paper.specs.Sound.{Terms}
 use Rattle.paper.specs.Window.{Message}
+use Rattle.paper.specs.Layout.{slots, recordAt, recordWords, sizeIn, pairsIn, listedIn, thresholdsIn, serialsIn, scoresIn, flagsIn}
 use Rattle.paper.proofs.SortLaws.{select-in}
 use Rattle.memory.specs.Keeps.{Keeps}
 use Rattle.memory.proofs.KeepsLaws.{keeps-at, keeps-part}
-use Rattle.window.specs.Layout.{slots, recordAt, recordWords}
 use Rattle.window.specs.Slot.{slot, ring}
 use Rattle.candidates.proofs.MatchLaws.{in-ring}
 use Rattle.candidates.specs.Match.{exceedsCells}
 use Rattle.candidates.specs.Flags.{flagOf, inRing}
-use Rattle.query.specs.Record.{sizeIn, pairsIn, listedIn, thresholdsIn, serialsIn, scoresIn, flagsIn, thresholds, flags, list, candidates, Says, Holds, HoldsAt}
+use Rattle.query.specs.Record.{thresholds, flags, list, candidates, Says, Holds, HoldsAt}
 
 -- functions that agree on a list's elements
 map-agree : {A B : Type 0} (f g : A → B) (l : List A) → ((x : A) → In x l → f x ≡ g x) → map f l ≡ map g l

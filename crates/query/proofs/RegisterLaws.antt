@@ -6,18 +6,17 @@ use mathlib.Core.List.{List}
 use lib.ListN.{length, getD, set}
 use lib.Seq.{getD-set-same, getD-set-other}
 use borrow.Author.Count.{below-more}
-use Rattle.paper.specs.Log.{stateLength, numbers}
+use Rattle.paper.specs.Frame.{numbers}
 use Rattle.paper.specs.Rank as Rank
 use Rattle.paper.specs.Write.{side-by-side}
+use Rattle.paper.specs.Layout.{stateLength, slots, recordAt, sizeIn, pairsIn, listedIn}
 use Rattle.paper.proofs.WriteLaws.{length-side}
 use Rattle.memory.specs.Words.{words, putWord}
 use Rattle.memory.specs.Keeps.{Keeps}
 use Rattle.memory.proofs.WordLaws.{put-word, put-length, words-length}
 use Rattle.memory.proofs.KeepsLaws.{keeps-refl, keeps-trans, keeps-wider, keeps-more}
-use Rattle.window.specs.Layout.{slots, recordAt}
 use Rattle.candidates.specs.declared.Query.{Query}
 use Rattle.candidates.proofs.TermLaws.{side-at}
-use Rattle.query.specs.Record.{sizeIn, pairsIn, listedIn}
 use Rattle.query.specs.Post.{LoadedQuery, Refilled, PutQuery, Registered}
 use Rattle.query.proofs.KeptLaws.{over-kept}
 

@@ -22,6 +22,7 @@ use Rattle.paper.specs.Write.{side-by-side}
 use Rattle.paper.specs.Sound.{Messages, Terms}
 use Rattle.paper.specs.Threshold.{exceeds, thresholdSum, lastScore, Tight, Settled}
 use Rattle.paper.specs.Threshold as Threshold
+use Rattle.paper.specs.Layout.{slots}
 use Rattle.paper.proofs.RankLaws.{ranking-right, ranking-length}
 use Rattle.paper.proofs.ThresholdLaws.{sum-zero, Safe, candidates-enough}
 use Rattle.impact.specs.Cell.{lookup}
@@ -30,7 +31,6 @@ use Rattle.rank.specs.Listing.{linesOf, lastOf}
 use Rattle.rank.specs.Weights.{weightedSum, Raised}
 use Rattle.rank.proofs.LineLaws.{length-listed}
 use Rattle.rank.proofs.PaperLaws.{lines-last, threshold-sum, raised-tight}
-use Rattle.window.specs.Layout.{slots}
 use Rattle.window.specs.Slot.{slot, stored, ring}
 use Rattle.window.proofs.SlotLaws.{slot-kept}
 use Rattle.candidates.specs.declared.Query.{Query}

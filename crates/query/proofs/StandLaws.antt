@@ -18,6 +18,7 @@ use Rattle.paper.specs.Sound.{Messages, Terms}
 use Rattle.paper.specs.Threshold.{lastScore}
 use Rattle.paper.specs.Threshold as Threshold
 use Rattle.paper.specs.Window.{Message}
+use Rattle.paper.specs.Layout.{slots, listedIn, thresholdsIn, serialsIn, scoresIn}
 use Rattle.paper.proofs.Tests.{and-true}
 use Rattle.paper.proofs.ThresholdLaws.{outranked, settled-again}
 use Rattle.memory.proofs.KeepsLaws.{keeps-at, keeps-part, keeps-wider}
@@ -25,7 +26,6 @@ use Rattle.rank.specs.declared.Ranked.{Ranked}
 use Rattle.rank.specs.Listing.{linesOf, lastOf}
 use Rattle.rank.proofs.LineLaws.{length-listed}
 use Rattle.rank.proofs.PaperLaws.{lines-last}
-use Rattle.window.specs.Layout.{slots}
 use Rattle.window.specs.Slot.{Slot, slot, stored, ring}
 use Rattle.window.proofs.RingLaws.{ring-append}
 use Rattle.window.proofs.SlotLaws.{slot-kept}
@@ -34,7 +34,7 @@ use Rattle.candidates.specs.Flags.{flagOf, inRing}
 use Rattle.candidates.specs.Match.{exceedsCells, lowSlots, AllRising}
 use Rattle.candidates.specs.Post.{termsOf, Rising, Low}
 use Rattle.candidates.proofs.MatchLaws.{in-ring, ring-in, score-stored}
-use Rattle.query.specs.Record.{listedIn, thresholdsIn, serialsIn, scoresIn, thresholds, flags, list, candidates, keptOf, Holds}
+use Rattle.query.specs.Record.{thresholds, flags, list, candidates, keptOf, Holds}
 use Rattle.query.specs.Post.{Is, LoadedQuery, LoadedThresholds, LoadedList, arriving, Arriving, Reached, Arrived, NewestLow, Stands, KeptList, Change, Updated}
 use Rattle.query.proofs.ChosenLaws.{in-append, in-left, in-right, slots-rise, chosen, serials-of}
 use Rattle.query.proofs.KeptLaws.{over-kept}

@@ -7,15 +7,14 @@ use mathlib.Core.List.{List}
 use lib.ListN.{length, getD, take, drop, set, replicate, length-replicate, getD-replicate}
 use lib.Seq.{getD-take, getD-drop, getD-set-same}
 use borrow.Author.Needs.{needs}
-use Rattle.paper.specs.Log.{stateLength, numbers}
+use Rattle.paper.specs.Frame.{numbers}
+use Rattle.paper.specs.Layout.{stateLength, recordAt, recordWords, listedIn, thresholdsIn, serialsIn, scoresIn, flagsIn}
 use Rattle.memory.specs.Words.{words, putWord}
 use Rattle.memory.specs.Keeps.{Keeps, Stored}
 use Rattle.memory.proofs.WordLaws.{words-length, put-word}
 use Rattle.memory.proofs.KeepsLaws.{keeps-refl, keeps-trans, keeps-wider, keeps-set, keeps-at, keeps-part}
 use Rattle.memory.proofs.ArrayLaws.{Storing, storing-more}
 use Rattle.rank.specs.declared.Ranked.{Ranked}
-use Rattle.window.specs.Layout.{recordAt, recordWords}
-use Rattle.query.specs.Record.{listedIn, thresholdsIn, serialsIn, scoresIn, flagsIn}
 use Rattle.query.specs.Post.{StoredKept, Cleared}
 
 -- a part written, then only what comes after it: it stays, and nothing before it changed

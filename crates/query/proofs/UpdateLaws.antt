@@ -16,11 +16,11 @@ use Rattle.paper.specs.Sort.{select}
 use Rattle.paper.specs.Window.{Message}
 use Rattle.paper.specs.Sound.{Messages, Terms}
 use Rattle.paper.specs.Threshold.{reached, Settled}
+use Rattle.paper.specs.Layout.{slots, recordAt, recordWords, listedIn, thresholdsIn}
 use Rattle.paper.proofs.Tests as Tests
 use Rattle.paper.proofs.SortLaws.{select-append, select-none}
 use Rattle.paper.proofs.ThresholdLaws.{skip}
 use Rattle.memory.proofs.KeepsLaws.{keeps-refl}
-use Rattle.window.specs.Layout.{slots, recordAt, recordWords}
 use Rattle.window.specs.Slot.{slot, stored, ring, window}
 use Rattle.window.specs.Terms.{inSet}
 use Rattle.candidates.specs.declared.Query.{Query}
@@ -29,7 +29,7 @@ use Rattle.candidates.specs.Flags.{flagOf, inRing}
 use Rattle.candidates.specs.Post.{termsOf, Rising, exceedsIn, Exceeding, Reaching}
 use Rattle.candidates.proofs.MatchLaws.{in-ring, ring-in}
 use Rattle.candidates.proofs.TermLaws.{exceeds-missing}
-use Rattle.query.specs.Record.{listedIn, thresholdsIn, thresholds, flags, list, candidates, keptOf, Holds}
+use Rattle.query.specs.Record.{thresholds, flags, list, candidates, keptOf, Holds}
 use Rattle.query.specs.Post.{Is, LoadedQuery, LoadedThresholds, Over, arriving, Arriving, Reached, Arrived, Change, reaches, SettledFrom, HasTerms, Covers, Shares, Updated}
 use Rattle.query.proofs.ChosenLaws.{in-append, in-left, in-right, messages-parts, slots-rise, slots-reached, reached-append, unreached-slot}
 use Rattle.query.proofs.SettleLaws.{lt-or-ge}

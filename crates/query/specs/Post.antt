@@ -11,20 +11,20 @@ use Rattle.paper.specs.Rank as Rank
 use Rattle.paper.specs.Window.{Message}
 use Rattle.paper.specs.Order.{In}
 use Rattle.paper.specs.Threshold.{thresholdSum, lastScore, reached, termAt}
+use Rattle.paper.specs.Layout.{slots, recordAt, recordWords, thresholdsIn, serialsIn, scoresIn, flagsIn, listedIn}
 use Rattle.paper.specs.Sound.{Messages, Terms}
 use Rattle.memory.specs.Keeps.{Keeps}
 use Rattle.impact.specs.Cell.{RisingTerms}
 use Rattle.rank.specs.declared.Ranked.{Ranked}
 use Rattle.rank.specs.Listing.{linesOf, lastOf, Tidy}
 use Rattle.rank.specs.Weights.{weightedSum, Raised}
-use Rattle.window.specs.Layout.{slots, recordAt, recordWords}
 use Rattle.window.specs.Slot.{slot, stored, ring, window}
 use Rattle.window.specs.Terms.{inSet, termOf}
 use Rattle.candidates.specs.declared.Query.{Query}
 use Rattle.candidates.specs.Match.{exceedsCells, reachedSlots, lowSlots, AllRising}
 use Rattle.candidates.specs.Flags.{flagOf, inRing}
 use Rattle.candidates.specs.Post.{termsOf, Rising, Without}
-use Rattle.query.specs.Record.{thresholdsIn, serialsIn, scoresIn, flagsIn, listedIn, thresholds, flags, list, Says, Holds}
+use Rattle.query.specs.Record.{thresholds, flags, list, Says, Holds}
 
 -- ---- reading
 

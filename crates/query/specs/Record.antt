@@ -11,33 +11,12 @@ use Rattle.paper.specs.Sort.{select}
 use Rattle.paper.specs.Window.{Message}
 use Rattle.paper.specs.Threshold.{Kept, Settled, termAt, weightAt}
 use Rattle.rank.specs.Listing.{listed, ZeroFrom}
-use Rattle.window.specs.Layout.{slots, recordAt, recordWords}
+use Rattle.paper.specs.Layout.{slots, flagWords, recordAt, recordWords, sizeIn, pairsIn, listedIn, thresholdsIn, serialsIn, scoresIn, flagsIn}
 use Rattle.window.specs.Slot.{slot, ring}
 use Rattle.candidates.specs.Match.{exceedsCells}
 use Rattle.candidates.specs.Flags.{flagOf, inRing}
 
--- ---- its parts: k, the number of terms, the terms with their weights, then what is kept: the list's length, thresholds, serials, scores, flags
-
-abbrev pub sizeIn : ℕ → ℕ
-sizeIn q = recordAt q + 1
-
-abbrev pub pairsIn : ℕ → ℕ
-pairsIn q = recordAt q + 2
-
-abbrev pub listedIn : ℕ → ℕ
-listedIn q = recordAt q + 10
-
-abbrev pub thresholdsIn : ℕ → ℕ
-thresholdsIn q = recordAt q + 11
-
-abbrev pub serialsIn : ℕ → ℕ
-serialsIn q = recordAt q + 19
-
-abbrev pub scoresIn : ℕ → ℕ
-scoresIn q = recordAt q + 35
-
-abbrev pub flagsIn : ℕ → ℕ
-flagsIn q = recordAt q + 51
+-- ---- its parts
 
 unfoldable pub thresholds : List ℕ → ℕ → ℕ → List ℕ
 thresholds w q n = take n (drop (thresholdsIn q) w)

@@ -4,41 +4,25 @@ ghost use Prim.Native.Nat.{ℕ, _+_, _*_, _%_, _<_, _≤_};
 ghost use mathlib.Core.Bool.{Bool, not};
 ghost use lib.ListN.{length, getD, take, drop};
 ghost use lib.Dec.{eqb};
+ghost use Rattle.paper.specs.Frame.{numbers};
 ghost use Rattle.paper.specs.Impact.{top};
-ghost use Rattle.paper.specs.Log.{stateLength, numbers};
 ghost use Rattle.paper.specs.Write.{side-by-side};
+ghost use Rattle.paper.specs.Layout.{stateLength, slots, recordAt};
 ghost use Rattle.memory.specs.Words.{words};
-ghost use Rattle.window.specs.Layout.{slots, recordAt};
 ghost use Rattle.window.specs.Terms.{termLimit};
 ghost use Rattle.rank.specs.Listing.{linesOf};
 ghost use Rattle.query.specs.Record.{Says};
 ghost use Rattle.query.specs.Post.{Clamped, InRange, LoadedQuery, LoadedThresholds, LoadedList, Lifted, secure, StoredKept, Finished, Refilled, SettledFrom, Arriving, Reached, Arrived, NewestLow, Stands, KeptList, Covers, Shares, Updated, PutQuery, Registered, Cleared};
 use candidates::Query;
+use paper::layout;
 use rank::Ranked;
-
-// Where the records start, and how long each is, in words: k, n, the pairs, the list's length, thresholds, serials, scores, flags.
-const RECORDS: usize = 4888;
-
-const RECORD: usize = 60;
-
-const PAIRS: usize = 2;
-
-const LISTED: usize = 10;
-
-const THRESHOLDS: usize = 11;
-
-const SERIALS: usize = 19;
-
-const SCORES: usize = 35;
-
-const FLAGS: usize = 51;
 
 // Whether the number is in use: a record that isn't is all zero.
 pub fn in_use(state: &[u8], q: usize) -> bool
     requires { ⌜ (length (now state) ≡ stateLength) × (q < numbers) ⌝ }
     ensures { λ r. ⌜ r ≡ not (eqb (getD (words (now (state .entry))) (recordAt q) 0) 0) ⌝ }
 {
-    memory::get(state, RECORDS + RECORD * q) != 0
+    memory::get(state, layout::RECORDS + layout::RECORD * q) != 0
 }
 
 // A value brought into a range, whatever memory holds.
@@ -57,8 +41,8 @@ pub fn load_query(state: &[u8], q: usize) -> Query
     requires { ⌜ (length (now state) ≡ stateLength) × (q < numbers) ⌝ }
     ensures { λ r. ⌜ LoadedQuery (words (now (state .entry))) q r ⌝ }
 {
-    let at = RECORDS + RECORD * q;
-    let pairs = memory::load8(state, at + PAIRS);
+    let at = layout::RECORDS + layout::RECORD * q;
+    let pairs = memory::load8(state, at + layout::PAIRS);
     let mut terms = [0u32; 8];
     let mut weights = [0u32; 8];
     let mut i: usize = 0;
@@ -70,7 +54,7 @@ pub fn load_query(state: &[u8], q: usize) -> Query
     }
     Query {
         k: clamped(memory::get(state, at), 0, 16) as usize,
-        n: clamped(memory::get(state, at + 1), 1, 8) as usize,
+        n: clamped(memory::get(state, at + layout::SIZE), 1, 8) as usize,
         terms,
         weights,
     }
@@ -81,7 +65,10 @@ fn load_thresholds(state: &[u8], q: usize) -> [u32; 8]
     requires { ⌜ (length (now state) ≡ stateLength) × (q < numbers) ⌝ }
     ensures { λ r. ⌜ LoadedThresholds (words (now (state .entry))) q r ⌝ }
 {
-    let words = memory::load8(state, RECORDS + RECORD * q + THRESHOLDS);
+    let words = memory::load8(
+        state,
+        layout::RECORDS + layout::RECORD * q + layout::THRESHOLDS,
+    );
     let mut thresholds = [0u32; 8];
     let mut i: usize = 0;
     while i < 8 {
@@ -96,13 +83,13 @@ pub fn load_list(state: &[u8], q: usize) -> Ranked
     requires { ⌜ (length (now state) ≡ stateLength) × (q < numbers) ⌝ }
     ensures { λ r. ⌜ LoadedList (words (now (state .entry))) q r ⌝ }
 {
-    let at = RECORDS + RECORD * q;
-    let serials = memory::load16(state, at + SERIALS);
-    let scores = memory::load16(state, at + SCORES);
+    let at = layout::RECORDS + layout::RECORD * q;
+    let serials = memory::load16(state, at + layout::SERIALS);
+    let scores = memory::load16(state, at + layout::SCORES);
     Ranked {
         serials,
         scores,
-        count: clamped(memory::get(state, at + LISTED), 0, 16) as usize,
+        count: clamped(memory::get(state, at + layout::LISTED), 0, 16) as usize,
     }
 }
 
@@ -112,15 +99,15 @@ fn store(state: &mut [u8], q: usize, thresholds: [u32; 8], list: Ranked, flags: 
     requires { ⌜ list .count ≤ 16 ⌝ }
     ensures { λ _. ⌜ StoredKept q thresholds list flags (words (now (state .entry))) (words (now (state .exit))) ⌝ }
 {
-    let at = RECORDS + RECORD * q;
+    let at = layout::RECORDS + layout::RECORD * q;
     let count = list.count;
     let serials = list.serials;
     let scores = list.scores;
-    memory::put(state, at + LISTED, count as u32);
-    memory::store8(state, at + THRESHOLDS, thresholds);
-    memory::store16(state, at + SERIALS, serials);
-    memory::store16(state, at + SCORES, scores);
-    memory::store9(state, at + FLAGS, flags);
+    memory::put(state, at + layout::LISTED, count as u32);
+    memory::store8(state, at + layout::THRESHOLDS, thresholds);
+    memory::store16(state, at + layout::SERIALS, serials);
+    memory::store16(state, at + layout::SCORES, scores);
+    memory::store9(state, at + layout::FLAGS, flags);
 }
 
 // The thresholds raised where the list is full and they leave room below its last score, else none.
@@ -218,7 +205,7 @@ fn newest_exceeds(state: &[u8], newest: usize, query: Query, thresholds: [u32; 8
     requires { ⌜ (length (now state) ≡ stateLength) × (query .n ≤ 8) ⌝ }
     ensures { λ r. ⌜ Arriving (words (now (state .entry))) newest query thresholds r ⌝ }
 {
-    if newest < window::SLOTS {
+    if newest < layout::SLOTS {
         return candidates::exceeds_in(state, newest, query, thresholds);
     }
     false
@@ -247,8 +234,8 @@ fn arrived_flags(state: &[u8], q: usize, newest: usize, above: bool) -> [u32; 9]
     requires { ⌜ (length (now state) ≡ stateLength) × (q < numbers) ⌝ }
     ensures { λ r. ⌜ Arrived (words (now (state .entry))) q newest above r ⌝ }
 {
-    let flags = memory::load9(state, RECORDS + RECORD * q + FLAGS);
-    if newest < window::SLOTS {
+    let flags = memory::load9(state, layout::RECORDS + layout::RECORD * q + layout::FLAGS);
+    if newest < layout::SLOTS {
         return candidates::with_flag(flags, newest, above);
     }
     flags
@@ -259,7 +246,7 @@ fn newest_below(state: &[u8], newest: usize, query: Query, bound: u32) -> bool
     requires { ⌜ (length (now state) ≡ stateLength) × InRange query ⌝ }
     ensures { λ r. ⌜ NewestLow (words (now (state .entry))) newest query bound r ⌝ }
 {
-    if newest < window::SLOTS {
+    if newest < layout::SLOTS {
         return candidates::all_below(state, newest, 1, query, bound);
     }
     true
@@ -295,7 +282,11 @@ fn keep_list(state: &mut [u8], q: usize, gone: usize, departed: usize, flags: [u
     ensures { λ _. ⌜ KeptList (words (now (state .entry))) q gone departed flags (words (now (state .exit))) ⌝ }
 {
     let rest = candidates::without(flags, gone, departed);
-    memory::store9(state, RECORDS + RECORD * q + FLAGS, rest);
+    memory::store9(
+        state,
+        layout::RECORDS + layout::RECORD * q + layout::FLAGS,
+        rest,
+    );
 }
 
 // The terms of the messages that go and come are put into the set.
@@ -310,7 +301,7 @@ pub fn add_moved(state: &[u8], gone: usize, departed: usize, newest: usize, set:
         j = window::following(j);
         left -= 1;
     }
-    if newest < window::SLOTS {
+    if newest < layout::SLOTS {
         window::add_terms(state, newest, set);
     }
 }
@@ -320,11 +311,11 @@ fn shares(state: &[u8], q: usize, set: &[bool]) -> bool
     requires { ⌜ (length (now state) ≡ stateLength) × (q < numbers) × (length (now set) ≡ termLimit) ⌝ }
     ensures { λ r. ⌜ Shares (words (now (state .entry))) q (now (set .entry)) r ⌝ }
 {
-    let at = RECORDS + RECORD * q;
-    let n = clamped(memory::get(state, at + 1), 1, 8) as usize;
+    let at = layout::RECORDS + layout::RECORD * q;
+    let n = clamped(memory::get(state, at + layout::SIZE), 1, 8) as usize;
     let mut i: usize = 0;
     while i < n {
-        let term = (memory::get(state, at + PAIRS + i) / 16 % 1024) as usize;
+        let term = (memory::get(state, at + layout::PAIRS + i) / 16 % 1024) as usize;
         if set[term] {
             return true;
         }
@@ -372,9 +363,9 @@ pub fn clear(state: &mut [u8], q: usize)
     requires { ⌜ (length (now state) ≡ stateLength) × (q < numbers) ⌝ }
     ensures { λ _. ⌜ Cleared (words (now (state .entry))) q (words (now (state .exit))) ⌝ }
 {
-    let at = RECORDS + RECORD * q;
+    let at = layout::RECORDS + layout::RECORD * q;
     let mut i: usize = 0;
-    while i < RECORD {
+    while i < layout::RECORD {
         memory::put(state, at + i, 0);
         i += 1;
     }
@@ -386,13 +377,13 @@ fn put_query(state: &mut [u8], q: usize, k: u32, n: usize, terms: [u32; 16], wei
     requires { ⌜ ((i : ℕ) → i < n → (getD terms i 0 < 1024) × (getD weights i 0 < 16)) ⌝ }
     ensures { λ _. ⌜ PutQuery q (record { k = k; terms = side-by-side n terms weights }) (words (now (state .entry))) (words (now (state .exit))) ⌝ }
 {
-    let at = RECORDS + RECORD * q;
+    let at = layout::RECORDS + layout::RECORD * q;
     memory::put(state, at, k);
-    memory::put(state, at + 1, n as u32);
+    memory::put(state, at + layout::SIZE, n as u32);
     let mut i: usize = 0;
     while i < n {
         let pair = terms[i] * 16 + weights[i];
-        memory::put(state, at + PAIRS + i, pair);
+        memory::put(state, at + layout::PAIRS + i, pair);
         i += 1;
     }
 }

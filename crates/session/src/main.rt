@@ -130,7 +130,7 @@ fn main() {
         print_refusal(1);
         return;
     }
-    let mut state = [0u8; 27232];
+    let mut state = [0u8; paper::layout::STATE];
     let capacity = wide(header[0]) + 1;
     let life = wide(header[1]) * 256 + wide(header[2]);
     let number = engine::start(&mut state, capacity as u32, life as u32);

@@ -9,10 +9,10 @@ use lib.ListN.{length, drop, length-map}
 use lib.Dec.{eqb, ltb}
 use borrow.Author.Tests.{ltb-true, ltb-false}
 use Rattle.paper.specs.Window.{Message, aged, standing, inForce, departing}
+use Rattle.paper.specs.Layout.{slots}
 use Rattle.paper.specs.Log.{Log, hasSerial, inForceAt, inForceNow}
 use Rattle.paper.specs.Sound.{Chronological, Sound}
 use Rattle.paper.proofs.WindowLaws.{stands, standing-true, staying, staying-none, all-stay, departing-staying}
-use Rattle.window.specs.Layout.{slots}
 use Rattle.window.specs.Slot.{slot, stored, ring, window, next, dropPast, holdsSerial}
 use Rattle.window.specs.Cursor.{Advanced, Roomy}
 use Rattle.window.proofs.RingLaws.{ring-length, ring-step}

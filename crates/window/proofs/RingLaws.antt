@@ -6,7 +6,7 @@ use native.Mathlib.Omega.{arith}
 use mathlib.Core.Path.{_≡_, refl, sym, ap, _∙_}
 use mathlib.Core.List.{List, [], _∷_, _++_}
 use lib.ListN.{length, getD}
-use Rattle.window.specs.Layout.{slots}
+use Rattle.paper.specs.Layout.{slots}
 use Rattle.window.specs.Slot.{next, ring}
 use Rattle.window.specs.Cursor.{Moved}
 

@@ -11,14 +11,13 @@ use Rattle.paper.specs.Frame.{mostPairs}
 use Rattle.paper.specs.Impact.{impact, squares}
 use Rattle.paper.specs.Window.{Message}
 use Rattle.paper.specs.Write.{side-by-side}
-use Rattle.paper.specs.Log.{stateLength}
+use Rattle.paper.specs.Layout.{stateLength, slots, slotWords, slotAt, cellsAt, recordAt}
 use Rattle.memory.specs.Words.{words, putWord}
 use Rattle.memory.specs.Keeps.{Keeps, Stored}
 use Rattle.memory.proofs.WordLaws.{words-length, put-word, put-length}
 use Rattle.memory.proofs.KeepsLaws.{keeps-trans, keeps-wider, keeps-set, keeps-at, keeps-part}
 use Rattle.impact.specs.Cell.{packed, cellOf, cellsOf, squaresOf}
 use Rattle.impact.proofs.CellLaws.{squares-side}
-use Rattle.window.specs.Layout.{slots, slotWords, slotAt, cellsAt, recordAt}
 use Rattle.window.specs.Slot.{slot, sizeAt, stored, ring, window}
 use Rattle.window.specs.Cursor.{Written}
 use Rattle.window.proofs.RingLaws.{ring-length, ring-below}

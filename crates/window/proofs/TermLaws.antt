@@ -11,10 +11,9 @@ use lib.Dec.{eqb}
 use borrow.Author.Count.{below-more}
 use borrow.Author.Tests.{eqb-true, eqb-false}
 use Rattle.paper.specs.Frame.{mostPairs}
-use Rattle.paper.specs.Log.{stateLength}
+use Rattle.paper.specs.Layout.{stateLength, slots, slotAt, cellsAt}
 use Rattle.memory.specs.Words.{words}
 use Rattle.impact.proofs.Merge.{cells-length, cell-at}
-use Rattle.window.specs.Layout.{slots, slotAt, cellsAt}
 use Rattle.window.specs.Slot.{slot, sizeAt}
 use Rattle.window.specs.Terms.{inSet}
 

@@ -4,8 +4,8 @@ use mathlib.Core.Path.{_≡_}
 use mathlib.Core.List.{List}
 use lib.ListN.{getD}
 use Rattle.paper.specs.Window.{Message}
+use Rattle.paper.specs.Layout.{slots, slotWords, slotAt, clockAt, oldestAt, countAt}
 use Rattle.memory.specs.Keeps.{Keeps}
-use Rattle.window.specs.Layout.{slots, slotWords, slotAt, clockAt, oldestAt, countAt}
 use Rattle.window.specs.Slot.{slot, stored, window, dropPast}
 
 -- what is read of the header: itself where it is in range, and in range whatever memory holds

@@ -1,4 +1,3 @@
-pub mod Layout
 pub mod Slot
 pub mod Terms
 pub mod Cursor

@@ -6,8 +6,8 @@ use lib.ListN.{getD, take, drop}
 use lib.Dec.{eqb}
 use Rattle.paper.specs.Frame.{mostPairs}
 use Rattle.paper.specs.Window.{Message, past}
+use Rattle.paper.specs.Layout.{slots, slotAt, cellsAt}
 use Rattle.impact.specs.Cell.{cellsOf}
-use Rattle.window.specs.Layout.{slots, slotAt, cellsAt}
 
 pub record Slot : Type 0 where
   pub time : ℕ

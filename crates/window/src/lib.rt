@@ -4,26 +4,15 @@ ghost use Prim.Native.Nat.{ℕ, _+_, _*_, _%_, _<_, _≤_};
 ghost use lib.ListN.{length, getD};
 ghost use Rattle.paper.specs.Window.{past};
 ghost use Rattle.paper.specs.Write.{side-by-side};
-ghost use Rattle.paper.specs.Log.{stateLength};
+ghost use Rattle.paper.specs.Layout.{slots, stateWords, stateLength};
 ghost use Rattle.memory.specs.Words.{words};
 ghost use Rattle.memory.specs.Keeps.{Stored};
 ghost use Rattle.impact.specs.Cell.{cellsOf, Looked};
-ghost use Rattle.window.specs.Layout.{slots};
 ghost use Rattle.window.specs.Slot.{slot, sizeAt, window, next, holdsSerial};
 ghost use Rattle.window.specs.Terms.{termLimit, HasAny, Added};
 ghost use Rattle.window.specs.Cursor.{Loaded, Advanced, Roomy, Written};
 use impact::Impact;
-
-// How long the state memory is, in bytes.
-pub const STATE: usize = 27232;
-
-// How many slots the ring has: one more than messages can be in force.
-pub const SLOTS: usize = 257;
-
-// Where the slots start, and how long each is, in words: time, serial, number of cells, the cells.
-const RING: usize = 5;
-
-const SLOT: usize = 19;
+use paper::layout;
 
 // Whether an arrival at `time` is past at the clock.
 fn is_past(life: u32, clock: u32, time: u32) -> bool
@@ -41,7 +30,7 @@ pub fn following(j: usize) -> usize
     ensures { λ r. ⌜ r ≡ next j ⌝ }
 {
     let next = j + 1;
-    if next < SLOTS { next } else { 0 }
+    if next < layout::SLOTS { next } else { 0 }
 }
 
 // The time of the message in slot j.
@@ -49,7 +38,7 @@ fn time_in(state: &[u8], j: usize) -> u32
     requires { ⌜ (length (now state) ≡ stateLength) × (j < slots) ⌝ }
     ensures { λ r. ⌜ r ≡ slot (words (now (state .entry))) j .time ⌝ }
 {
-    memory::get(state, RING + SLOT * j)
+    memory::get(state, layout::RING + layout::SLOT * j)
 }
 
 // The serial of the message in slot j.
@@ -57,7 +46,7 @@ pub fn serial_in(state: &[u8], j: usize) -> u32
     requires { ⌜ (length (now state) ≡ stateLength) × (j < slots) ⌝ }
     ensures { λ r. ⌜ r ≡ slot (words (now (state .entry))) j .serial ⌝ }
 {
-    memory::get(state, RING + SLOT * j + 1)
+    memory::get(state, layout::RING + layout::SLOT * j + layout::SERIAL)
 }
 
 // How many cells the message in slot j has, at most sixteen whatever memory holds.
@@ -65,7 +54,7 @@ fn size_in(state: &[u8], j: usize) -> usize
     requires { ⌜ (length (now state) ≡ stateLength) × (j < slots) ⌝ }
     ensures { λ r. ⌜ r ≡ sizeAt (words (now (state .entry))) j ⌝ }
 {
-    let size = memory::get(state, RING + SLOT * j + 2) as usize;
+    let size = memory::get(state, layout::RING + layout::SLOT * j + layout::CELL_COUNT) as usize;
     if size < 16 { size } else { 16 }
 }
 
@@ -75,7 +64,13 @@ pub fn impacts_in(state: &[u8], j: usize, terms: [u32; 8], n: usize) -> [u32; 8]
     ensures { λ r. ⌜ Looked (slot (words (now (state .entry))) j .cells) terms n r ⌝ }
 {
     let size = size_in(state, j);
-    impact::impacts(state, RING + SLOT * j + 3, size, terms, n)
+    impact::impacts(
+        state,
+        layout::RING + layout::SLOT * j + layout::CELLS,
+        size,
+        terms,
+        n,
+    )
 }
 
 // Whether the message in slot j has a term in the set.
@@ -83,7 +78,7 @@ pub fn has_any(state: &[u8], j: usize, set: &[bool]) -> bool
     requires { ⌜ (length (now state) ≡ stateLength) × (j < slots) × (length (now set) ≡ termLimit) ⌝ }
     ensures { λ r. ⌜ HasAny (slot (words (now (state .entry))) j .cells) (now (set .entry)) r ⌝ }
 {
-    let at = RING + SLOT * j + 3;
+    let at = layout::RING + layout::SLOT * j + layout::CELLS;
     let size = size_in(state, j);
     let mut i: usize = 0;
     while i < size {
@@ -101,7 +96,7 @@ pub fn add_terms(state: &[u8], j: usize, set: &mut [bool])
     requires { ⌜ (length (now state) ≡ stateLength) × (j < slots) × (length (now set) ≡ termLimit) ⌝ }
     ensures { λ _. ⌜ (length (now (set .exit)) ≡ termLimit) × Added (slot (words (now (state .entry))) j .cells) (now (set .entry)) (now (set .exit)) ⌝ }
 {
-    let at = RING + SLOT * j + 3;
+    let at = layout::RING + layout::SLOT * j + layout::CELLS;
     let size = size_in(state, j);
     let mut i: usize = 0;
     while i < size {
@@ -123,12 +118,12 @@ impl Cursor {
         requires { ⌜ length (now state) ≡ stateLength ⌝ }
         ensures { λ r. ⌜ Loaded (words (now (state .entry))) (r .clock) (r .oldest) (r .count) ⌝ }
     {
-        let oldest = memory::get(state, 3) as usize;
-        let count = memory::get(state, 4) as usize;
+        let oldest = memory::get(state, layout::OLDEST) as usize;
+        let count = memory::get(state, layout::COUNT) as usize;
         Cursor {
-            clock: memory::get(state, 2),
-            oldest: oldest % SLOTS,
-            count: count % SLOTS,
+            clock: memory::get(state, layout::CLOCK),
+            oldest: oldest % layout::SLOTS,
+            count: count % layout::SLOTS,
         }
     }
 
@@ -188,7 +183,7 @@ pub fn has_serial(state: &[u8], first: usize, count: usize, serial: u32) -> bool
 
 // The message's cells, from word `at` on.
 fn put_cells(state: &mut [u8], at: usize, m: usize, terms: [u32; 16], counts: [u32; 16])
-    requires { ⌜ (length (now state) ≡ stateLength) × (at + m ≤ 6808) × (m ≤ 16) ⌝ }
+    requires { ⌜ (length (now state) ≡ stateLength) × (at + m ≤ stateWords) × (m ≤ 16) ⌝ }
     requires { ⌜ ((i : ℕ) → i < m → (getD terms i 0 < 1024) × (getD counts i 0 < 256)) ⌝ }
     ensures { λ _. ⌜ Stored at m (cellsOf (side-by-side m terms counts)) (words (now (state .entry))) (words (now (state .exit))) ⌝ }
 {
@@ -218,9 +213,9 @@ pub fn put_message(
     requires { ⌜ ((i : ℕ) → i < m → (getD terms i 0 < 1024) × (getD counts i 0 < 256)) ⌝ }
     ensures { λ _. ⌜ Written j (record { time = time; serial = serial; pairs = side-by-side m terms counts }) (words (now (state .entry))) (words (now (state .exit))) ⌝ }
 {
-    let at = RING + SLOT * j;
+    let at = layout::RING + layout::SLOT * j;
     memory::put(state, at, time);
-    memory::put(state, at + 1, serial);
-    memory::put(state, at + 2, m as u32);
-    put_cells(state, at + 3, m, terms, counts);
+    memory::put(state, at + layout::SERIAL, serial);
+    memory::put(state, at + layout::CELL_COUNT, m as u32);
+    put_cells(state, at + layout::CELLS, m, terms, counts);
 }

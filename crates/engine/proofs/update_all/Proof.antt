@@ -5,7 +5,7 @@ use native.Mathlib.Omega.{arith}
 use mathlib.Core.Path.{_≡_, refl, sym, ap, _∙_}
 use mathlib.Core.Logic.{⊎-elim}
 use lib.ListN.{length}
-use Rattle.paper.specs.Log.{numbers}
+use Rattle.paper.specs.Frame.{numbers}
 use Rattle.memory.specs.Words.{words}
 use Rattle.window.specs.Terms.{termLimit}
 use Rattle.query.specs.Post.{Covers}

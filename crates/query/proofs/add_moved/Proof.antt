@@ -4,8 +4,8 @@ use native.Mathlib.Omega.{arith}
 use mathlib.Core.Path.{_≡_}
 use lib.ListN.{length}
 use borrow.Author.Needs.{needs}
+use Rattle.paper.specs.Layout.{slots}
 use Rattle.memory.specs.Words.{words}
-use Rattle.window.specs.Layout.{slots}
 use Rattle.window.specs.Terms.{termLimit}
 use Rattle.query.proofs.MovedLaws.{Gathered, gather-start, gather-step, covers-one, covers-none}
 use Rattle.query.proofs.add_moved.Statement.{statement}

@@ -2,8 +2,8 @@
 use Prim.Native.Nat.{_-_}
 use native.Mathlib.Omega.{arith}
 use borrow.Author.Needs.{needs}
+use Rattle.paper.specs.Layout.{recordAt, recordWords}
 use Rattle.memory.proofs.ArrayLaws.{Storing, storing-none, storing-all}
-use Rattle.window.specs.Layout.{recordAt, recordWords}
 use Rattle.query.proofs.StoreLaws.{zeros, zeros-length, zeros-more, cleared}
 use Rattle.query.proofs.clear.Statement.{statement}
 use Rattle.query.proofs.clear.Tie as tie

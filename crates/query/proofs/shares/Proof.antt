@@ -7,10 +7,11 @@ use lib.ListN.{length, getD}
 use borrow.Author.Count.{below-more}
 use borrow.Author.Needs.{needs}
 use Rattle.paper.specs.Rank as Rank
+use Rattle.paper.specs.Layout.{pairsIn}
 use Rattle.paper.specs.Sound.{Terms}
 use Rattle.memory.specs.Words.{words}
 use Rattle.window.specs.Terms.{inSet}
-use Rattle.query.specs.Record.{pairsIn, Says}
+use Rattle.query.specs.Record.{Says}
 use Rattle.query.specs.Post.{Clamped}
 use Rattle.query.proofs.QueryLaws.{size-said, term-said}
 use Rattle.query.proofs.shares.Statement.{statement}

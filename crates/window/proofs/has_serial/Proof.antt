@@ -3,8 +3,8 @@ use Prim.Native.Nat.{_<_}
 use native.Mathlib.Omega.{arith}
 use mathlib.Core.Path.{_≡_, refl, _∙_}
 use borrow.Author.Needs.{needs}
+use Rattle.paper.specs.Layout.{slots}
 use Rattle.memory.specs.Words.{words}
-use Rattle.window.specs.Layout.{slots}
 use Rattle.window.specs.Slot.{window, holdsSerial}
 use Rattle.window.proofs.WalkLaws.{serial-found, serial-go, serial-none}
 use Rattle.window.proofs.has_serial.Statement.{statement}
