@@ -10,18 +10,19 @@ use lib.Dec.{ltb}
 use borrow.Author.Tests.{lt-ltb, le-ltb, ltb-true, ltb-false}
 use Rattle.paper.specs.Frame.{Frame, Pair, Valid, numbers}
 use Rattle.paper.specs.Frame.Frame.{message, tick}
-use Rattle.paper.specs.Layout.{slots, lifeAt, clockAt}
+use Rattle.paper.specs.Window.{mostMessages}
+use Rattle.paper.specs.Layout.{slots, lifeAt, clockAt, capacityAt}
 use Rattle.paper.specs.Log.{Log, inForceAt, timeOf, judgeKind, judgeFrame, accept}
 use Rattle.paper.proofs.LogLaws.{stays}
 use Rattle.paper.proofs.WindowLaws.{staying-none}
 use Rattle.memory.specs.Words.{words}
 use Rattle.window.specs.Slot.{stored, window, holdsSerial}
-use Rattle.window.specs.Cursor.{Loaded, Advanced, Roomy, Moved}
+use Rattle.window.specs.Cursor.{Loaded, Advanced, Roomy, Moved, PutCursor}
 use Rattle.window.proofs.RingLaws.{moved-below, moved-trans}
 use Rattle.window.proofs.LogLaws.{holds-serial, advanced-shows, roomy-shows}
 use Rattle.engine.specs.declared.Reply.{Reply}
 use Rattle.engine.specs.Represents.{oldestOf, countOf, Represents}
-use Rattle.engine.specs.Inner.{PutCursor, Passed, Joined, Accepted, Ticked, Did}
+use Rattle.engine.specs.Inner.{Passed, Joined, Accepted, Ticked, Did}
 use Rattle.engine.proofs.StepLaws.{taken-in}
 use Rattle.engine.proofs.PrepareLaws.{ticked, joined}
 
@@ -115,7 +116,7 @@ module _ (t s life clock o n : ℕ) (ps : List Pair) (w : List ℕ) (loaded : Lo
 
     module _ (capacity clock₂ o′ n′ : ℕ) (capacity-is : capacity ≡ log .N) (roomy : Roomy capacity clock₁ o₁ n₁ clock₂ o′ n′)
         (reply : Reply) (w₃ : List ℕ) (j : Joined (record { time = t; serial = s; pairs = ps }) o n o′ n′ w reply w₃)
-        (v : Valid (message t s ps)) (ok : judgeFrame log (message t s ps) ≡ 0) (room : n′ < 256) where
+        (v : Valid (message t s ps)) (ok : judgeFrame log (message t s ps) ≡ 0) (room : n′ < mostMessages) where
       moved-on : Moved (oldestOf w) (countOf w) o′ n′
       moved-on = subst₂ (λ (a b : ℕ). Moved a b o′ n′) eo en (moved-trans (adv .moved) (roomy .moved))
 
@@ -131,10 +132,10 @@ module _ (t s life clock o n : ℕ) (ps : List Pair) (w : List ℕ) (loaded : Lo
           (reply .marks) w₃ passed (λ q. (unfold accept in refl, refl)) reply refl (j .departures ∙ ap (λ (b : ℕ). b - n′) en)
 
 -- there is room for one more
-pub room-left : {capacity clock o n clock′ o′ n′ : ℕ} {x : Type 0} → (capacity ≤ 256) × x → Roomy capacity clock o n clock′ o′ n′ → n < slots → n′ < 256
+pub room-left : {capacity clock o n clock′ o′ n′ : ℕ} {x : Type 0} → (capacity ≤ mostMessages) × x → Roomy capacity clock o n clock′ o′ n′ → n < slots → n′ < mostMessages
 room-left {capacity} {clock} {o} {n} {clock′} {o′} {n′} cap r h = go (ltb n capacity) refl (ltb 0 n) refl
   where
-    go : (b : Bool) → ltb n capacity ≡ b → (z : Bool) → ltb 0 n ≡ z → n′ < 256
+    go : (b : Bool) → ltb n capacity ≡ b → (z : Bool) → ltb 0 n ≡ z → n′ < mostMessages
     go true e z y = let l = ltb-true n capacity e in let k = r .room l in let c = cap .0 in omega arith
     go false e true y = let k = r .full (ltb-false n capacity e) (ltb-true 0 n y) in omega arith
     go false e false y = let k = ltb-false 0 n y in let m = r .moved .count-most in omega arith
@@ -153,8 +154,8 @@ known {s} {r} {t} {serial} {life} {clock} {o} {n} {clock₁} {o₁} {n₁} {b} p
 pub message-done : {s s′ : List ℕ} {r : Reply} {t serial life clock o n clock₁ o₁ n₁ capacity clock₂ o′ n′ : ℕ} {b : Bool} {ps : List Pair}
     → Loaded (words s) clock o n → life ≡ getD (words s) lifeAt 0 → Advanced (words s) life o n t clock₁ o₁ n₁ → clock ≤ t
     → b ≡ holdsSerial serial (window (words s) o₁ n₁) → b ≡ false
-    → (capacity ≤ 256) × (getD (words s) 0 0 ≤ 256 → capacity ≡ getD (words s) 0 0) → Roomy capacity clock₁ o₁ n₁ clock₂ o′ n′
-    → Joined (record { time = t; serial = serial; pairs = ps }) o n o′ n′ (words s) r (words s′) → n′ < 256 → Did (message t serial ps) s r s′
+    → (capacity ≤ mostMessages) × (getD (words s) capacityAt 0 ≤ mostMessages → capacity ≡ getD (words s) capacityAt 0) → Roomy capacity clock₁ o₁ n₁ clock₂ o′ n′
+    → Joined (record { time = t; serial = serial; pairs = ps }) o n o′ n′ (words s) r (words s′) → n′ < mostMessages → Did (message t serial ps) s r s′
 message-done {s} {s′} {r} {t} {serial} {life} {clock} {o} {n} {clock₁} {o₁} {n₁} {capacity} {clock₂} {o′} {n′} {b} {ps} loaded life-is adv h e y cap roomy j room = record {
   unchanged = λ z. absurd (z (j .number));
   right = λ log rep v.

@@ -3,7 +3,6 @@ pub mod RepresentsLaws
 pub mod SameLaws
 pub mod UnmarkedLaws
 pub mod StartLaws
-pub mod HeaderLaws
 pub mod ListLaws
 pub mod PassedLaws
 pub mod StepLaws

@@ -7,8 +7,9 @@ use mathlib.Core.List.{List, map}
 use lib.ListN.{length}
 use lib.Dec.{ltb, leb}
 use borrow.Author.Tests.{eq-eqb, lt-ltb, le-ltb, le-leb, lt-leb}
+use Rattle.paper.specs.Frame.{termWidth}
 use Rattle.paper.specs.Layout.{stateLength}
-use Rattle.paper.specs.Log.{Log, inForceNow, posted, judgePostings}
+use Rattle.paper.specs.Log.{Log, inForceNow, posted, judgePostings, postingLength}
 use Rattle.paper.proofs.LogLaws.{in-force-valid}
 use Rattle.memory.specs.Words.{words}
 use Rattle.window.specs.Slot.{stored, window}
@@ -29,22 +30,22 @@ module _ (s : List ℕ) (t : ℕ) (out : List ℕ) where
   }
 
   module _ (long : length s ≡ stateLength) where
-    judged : (log : Log) {b d : Bool} → ltb t (2 ^ 10) ≡ b → leb (8 * length (posted log t)) (length out) ≡ d
+    judged : (log : Log) {b d : Bool} → ltb t (2 ^ 10) ≡ b → leb (postingLength * length (posted log t)) (length out) ≡ d
         → judgePostings log (length s) (length out) t ≡ cond b (cond d 0 12) 5
     unfolding judgePostings
     judged log e f = rw (eq-eqb (length s) stateLength long, e, f) refl
 
-    pub postings-no-term : 1023 < t → PostingsPost s t out (record { number = 5; count = 0 }) out
+    pub postings-no-term : 2 ^ termWidth ≤ t → PostingsPost s t out (record { number = 5; count = 0 }) out
     postings-no-term h = record {
       long = refl;
       not-lent = λ k. absurd (k long);
       no-term = λ _ _. refl;
       refused = λ _. (refl, refl);
-      right = λ log r _. (sym (judged log (le-ltb t 1024 (omega arith)) refl), λ e. absurd (omega arith));
+      right = λ log r _. (sym (judged log (le-ltb t (2 ^ termWidth) (omega arith)) refl), λ e. absurd (omega arith));
     }
 
     -- the window holds the messages in force, so what is counted and written is paper's
-    module _ (h : t ≤ 1023) {clock o n found : ℕ} (l : Loaded (words s) clock o n) (c : Counted t n (window (words s) o n) found) where
+    module _ (h : t < 2 ^ termWidth) {clock o n found : ℕ} (l : Loaded (words s) clock o n) (c : Counted t n (window (words s) o n) found) where
       shown : (log : Log) → Represents log (words s) → window (words s) o n ≡ map stored (inForceNow log)
       shown log r = rw (l .oldest-is (r .oldest-below), l .count-is (r .count-below)) (r .shows)
 
@@ -57,7 +58,7 @@ module _ (s : List ℕ) (t : ℕ) (out : List ℕ) where
         not-lent = λ _. refl;
         no-term = λ _ k. absurd (omega arith);
         refused = λ _. (refl, refl);
-        right = λ log r _. let e = counted log r in (sym (judged log (lt-ltb t 1024 (omega arith)) (lt-leb (8 * length (posted log t)) (length out) (omega arith))), λ k. absurd (omega arith));
+        right = λ log r _. let e = counted log r in (sym (judged log (lt-ltb t (2 ^ termWidth) (omega arith)) (lt-leb (postingLength * length (posted log t)) (length out) (omega arith))), λ k. absurd (omega arith));
       }
 
       pub postings-right : {out′ : List ℕ} → found ≤ length out / 8 → Filled t n (window (words s) o n) out out′
@@ -69,7 +70,7 @@ module _ (s : List ℕ) (t : ℕ) (out : List ℕ) where
         refused = λ k. absurd (k refl);
         right = λ log r _.
             let e = counted log r in (
-              sym (judged log (lt-ltb t 1024 (omega arith)) (le-leb (8 * length (posted log t)) (length out) (omega arith))),
+              sym (judged log (lt-ltb t (2 ^ termWidth) (omega arith)) (le-leb (postingLength * length (posted log t)) (length out) (omega arith))),
               λ _. (e, filled-postings t (inForceNow log) (in-force-valid log (r .sound)) (shown log r) f (omega arith)),
             );
       }

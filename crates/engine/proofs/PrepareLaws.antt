@@ -11,14 +11,14 @@ use lib.Dec.{ltb}
 use borrow.Author.Tests.{lt-ltb, ltb-true, ltb-false}
 use Rattle.paper.specs.Frame.{Pair}
 use Rattle.paper.specs.Frame.Frame.{message, tick}
+use Rattle.paper.specs.Window.{mostMessages}
 use Rattle.paper.specs.Layout.{slots, slotAt, slotWords, recordAt}
 use Rattle.window.specs.Slot.{Slot, slot, ring, window}
-use Rattle.window.specs.Cursor.{Moved, Written}
+use Rattle.window.specs.Cursor.{Moved, Written, PutCursor}
 use Rattle.window.proofs.RingLaws.{ring-last, moved-below, moved-end}
 use Rattle.window.proofs.SlotLaws.{slot-kept}
 use Rattle.candidates.specs.Flags.{inRing}
 use Rattle.query.specs.Post.{arriving}
-use Rattle.engine.specs.Inner.{PutCursor}
 use Rattle.engine.proofs.SameLaws.{window-same}
 use Rattle.engine.proofs.StepLaws.{Prepared, outside}
 
@@ -68,7 +68,7 @@ module _ (w : List ℕ) (o n o′ n′ : ℕ) (low : o < slots) (few : n < slots
   one k h = ap (λ (b : Bool). cond {A = List ℕ} b (k ∷ []) []) (lt-ltb k slots h)
 
   -- a message arrives in the slot after the window
-  pub joined : (t s : ℕ) (ps : List Pair) (w₁ w₂ : List ℕ) → n′ < 256
+  pub joined : (t s : ℕ) (ps : List Pair) (w₁ w₂ : List ℕ) → n′ < mostMessages
       → Written ((o′ + n′) % slots) (record { time = t; serial = s; pairs = ps }) w w₁ → PutCursor t o′ (n′ + 1) w₁ w₂
       → Prepared (message t s ps) w o n o′ n′ ((o′ + n′) % slots) w₂
   joined t s ps w₁ w₂ room a p =

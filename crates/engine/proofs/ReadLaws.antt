@@ -5,7 +5,7 @@ use native.Mathlib.Omega.{arith}
 use mathlib.Core.Path.{_≡_, refl, sym, ap, _∙_}
 use mathlib.Core.List.{List, [], _∷_, map}
 use lib.ListN.{length, getD}
-use Rattle.paper.specs.Frame.{Pair, Frame, Shape, AllFit, countWidth, weightWidth, termWidth, shape}
+use Rattle.paper.specs.Frame.{Pair, Frame, Shape, AllFit, countWidth, weightWidth, termWidth, shape, mostPairs, mostTerms, mostListed, numbers}
 use Rattle.paper.specs.Frame.Frame.{message, tick, register, unregister}
 use Rattle.paper.specs.Frame.Shape.{refused, accepted}
 use Rattle.paper.specs.Write.{side-by-side}
@@ -33,17 +33,17 @@ within (suc n) w (p ∷ ps) a h (suc i) l = within n w ps (a .2) (le-of-suc-le-s
 pub record Read (bytes terms amounts : List ℕ) (m w : ℕ) (make : List Pair → Frame) : Type 0 where
   pub is : shape bytes ≡ accepted (make (side-by-side m terms amounts))
   pub least : 1 ≤ m
-  pub most : m ≤ 16
-  pub fit : (i : ℕ) → i < m → (getD terms i 0 < 1024) × (getD amounts i 0 < 2 ^ w)
+  pub most : m ≤ mostPairs
+  pub fit : (i : ℕ) → i < m → (getD terms i 0 < 2 ^ termWidth) × (getD amounts i 0 < 2 ^ w)
 
 -- pairs of an accepted frame, in the arrays
 read-pairs : (bytes : List ℕ) (r : Parsed) (ps : List Pair) (w : ℕ) (make : List Pair → Frame) (m : ℕ) → m ≡ length ps → shape bytes ≡ accepted (make ps)
-    → AllFit w ps → 1 ≤ length ps → length ps ≤ 16 → r .terms ≡ termArray ps → r .amounts ≡ amountArray ps → Read bytes (r .terms) (r .amounts) m w make
+    → AllFit w ps → 1 ≤ length ps → length ps ≤ mostPairs → r .terms ≡ termArray ps → r .amounts ≡ amountArray ps → Read bytes (r .terms) (r .amounts) m w make
 read-pairs bytes r ps w make m em e a least most et ea = rw (et, ea, em) (record {
-  is = e ∙ ap (λ (l : List Pair). accepted (make l)) (sym (beside 16 ps most));
+  is = e ∙ ap (λ (l : List Pair). accepted (make l)) (sym (beside mostPairs ps most));
   least = least;
   most = most;
-  fit = within 16 w ps a most;
+  fit = within mostPairs w ps a most;
 })
 
 module _ (bytes : List ℕ) (r : Parsed) (post : ReadPost (shape bytes) r) where
@@ -64,11 +64,11 @@ module _ (bytes : List ℕ) (r : Parsed) (post : ReadPost (shape bytes) r) where
       go (refused n) y q a b = let z : _≡_ {A = ℕ} 0 1 = cc in absurd (omega arith)
 
   pub read-register : (t n k m : ℕ) → r .what ≡ Register t n k m
-      → Read bytes (r .terms) (r .amounts) m weightWidth (register t n k) × (n < 32) × (1 ≤ k) × (k ≤ 16) × (m ≤ 8)
+      → Read bytes (r .terms) (r .amounts) m weightWidth (register t n k) × (n < numbers) × (1 ≤ k) × (k ≤ mostListed) × (m ≤ mostTerms)
   read-register t n k m e = go (shape bytes) refl (sym e ∙ post .what) (post .terms) (post .amounts)
     where
       go : (x : Shape) → shape bytes ≡ x → Register t n k m ≡ answerOf x → r .terms ≡ termArray (pairsIn x) → r .amounts ≡ amountArray (pairsIn x)
-          → Read bytes (r .terms) (r .amounts) m weightWidth (register t n k) × (n < 32) × (1 ≤ k) × (k ≤ 16) × (m ≤ 8)
+          → Read bytes (r .terms) (r .amounts) m weightWidth (register t n k) × (n < numbers) × (1 ≤ k) × (k ≤ mostListed) × (m ≤ mostTerms)
       go (accepted (register t′ n′ k′ ps)) y q a b =
           let v = shape-valid bytes (register t′ n′ k′ ps) y in
           let et : t′ ≡ t = cc in
@@ -100,10 +100,10 @@ module _ (bytes : List ℕ) (r : Parsed) (post : ReadPost (shape bytes) r) where
       go (accepted (unregister t′ n)) y q = let z : _≡_ {A = ℕ} 0 1 = cc in absurd (omega arith)
       go (refused n) y q = let z : _≡_ {A = ℕ} 0 1 = cc in absurd (omega arith)
 
-  pub read-unregister : (t n : ℕ) → r .what ≡ Unregister t n → (shape bytes ≡ accepted (unregister t n)) × (n < 32)
+  pub read-unregister : (t n : ℕ) → r .what ≡ Unregister t n → (shape bytes ≡ accepted (unregister t n)) × (n < numbers)
   read-unregister t n e = go (shape bytes) refl (sym e ∙ post .what)
     where
-      go : (x : Shape) → shape bytes ≡ x → Unregister t n ≡ answerOf x → (shape bytes ≡ accepted (unregister t n)) × (n < 32)
+      go : (x : Shape) → shape bytes ≡ x → Unregister t n ≡ answerOf x → (shape bytes ≡ accepted (unregister t n)) × (n < numbers)
       go (accepted (unregister t′ n′)) y q =
           let v = shape-valid bytes (unregister t′ n′) y in
           let et : t′ ≡ t = cc in

@@ -8,12 +8,12 @@ use mathlib.Core.Option.{Option, none, some}
 use lib.ListN.{length, getD, take, drop, length-take, length-drop}
 use lib.Seq.{getD-take, getD-drop, ext-getD}
 use borrow.Author.Tests.{lt-ltb}
-use Rattle.paper.specs.Frame.{Pair}
+use Rattle.paper.specs.Frame.{Pair, mostListed}
 use Rattle.paper.specs.Rank.{Query}
 use Rattle.paper.specs.Sort.{select}
 use Rattle.paper.specs.Window.{Message}
 use Rattle.paper.specs.Threshold.{Settled}
-use Rattle.paper.specs.Layout.{slots, recordAt, recordWords}
+use Rattle.paper.specs.Layout.{slots, recordAt, recordWords, sizeOffset, pairsOffset, listedOffset, thresholdsOffset, serialsOffset, scoresOffset, flagsOffset, flagWords}
 use Rattle.rank.specs.Listing.{listed}
 use Rattle.window.specs.Slot.{Slot, slot, ring, window, next}
 use Rattle.candidates.specs.Match.{exceedsCells}
@@ -85,11 +85,11 @@ module _ (w w′ : List ℕ) (q : ℕ) (long : length w′ ≡ length w) (same :
 
   pub same-thresholds : (n : ℕ) → n ≤ 8 → thresholds w′ q n ≡ thresholds w q n
   unfolding thresholds
-  same-thresholds n h = same-part 11 n (omega arith)
+  same-thresholds n h = same-part thresholdsOffset n (omega arith)
 
   pub same-list : list w′ q ≡ list w q
   unfolding list
-  same-list = λ i. listed (same 10 (omega arith) i) (same-part 19 16 (omega arith) i) (same-part 35 16 (omega arith) i)
+  same-list = λ i. listed (same listedOffset (omega arith) i) (same-part serialsOffset mostListed (omega arith) i) (same-part scoresOffset mostListed (omega arith) i)
 
   word-same : (a i : ℕ) → a + i < recordWords → getD w′ (recordAt q + a + i) 0 ≡ getD w (recordAt q + a + i) 0
   word-same a i h =
@@ -98,7 +98,7 @@ module _ (w w′ : List ℕ) (q : ℕ) (long : length w′ ≡ length w) (same :
 
   same-flags : flags w′ q ≡ flags w q
   unfolding flags
-  same-flags = same-part 51 9 (omega arith)
+  same-flags = same-part flagsOffset flagWords (omega arith)
 
   module _ (o n : ℕ) (ho : o < slots) (hn : n ≤ slots) (slots-same : (j : ℕ) → j < slots → inRing o n j ≡ true → slot w′ j ≡ slot w j) where
     same-candidates : candidates w′ q o n ≡ candidates w q o n
@@ -126,13 +126,13 @@ module _ (w w′ : List ℕ) (q : ℕ) (long : length w′ ≡ length w) (same :
         record {
           says = record {
             k = ap (λ (i : ℕ). getD w′ i 0) (omega arith) ∙ same 0 (omega arith) ∙ ap (λ (i : ℕ). getD w i 0) (omega arith) ∙ h .says .k;
-            size = same 1 (omega arith) ∙ h .says .size;
-            pairs = λ i l. word-same 2 i (omega arith) ∙ h .says .pairs i l;
+            size = same sizeOffset (omega arith) ∙ h .says .size;
+            pairs = λ i l. word-same pairsOffset i (omega arith) ∙ h .says .pairs i l;
           };
           settled = subst (Settled x ms) (sym (same-kept-of m few)) (h .settled);
           flagged = λ j l. ap (λ (fs : List ℕ). flagOf fs j) same-flags ∙ h .flagged j l ∙ sym (same-flag (x .terms) m few j l (inRing o n j) refl);
-          no-threshold = λ i l u. word-same 11 i (omega arith) ∙ h .no-threshold i l u;
-          listed-most = let e = same 10 (omega arith) in let l = h .listed-most in omega arith;
-          no-serial = rw (same 10 (omega arith), same-part 19 16 (omega arith)) (h .no-serial);
-          no-score = rw (same 10 (omega arith), same-part 35 16 (omega arith)) (h .no-score);
+          no-threshold = λ i l u. word-same thresholdsOffset i (omega arith) ∙ h .no-threshold i l u;
+          listed-most = let e = same listedOffset (omega arith) in let l = h .listed-most in omega arith;
+          no-serial = rw (same listedOffset (omega arith), same-part serialsOffset mostListed (omega arith)) (h .no-serial);
+          no-score = rw (same listedOffset (omega arith), same-part scoresOffset mostListed (omega arith)) (h .no-score);
         }

@@ -1,5 +1,5 @@
 -- The memory of a fresh engine holds the fresh log. Assumes nothing.
-use Prim.Native.Nat.{ℕ, zero, suc, _+_, _*_, _≤_}
+use Prim.Native.Nat.{ℕ, zero, suc, _+_, _*_, _≤_, _<_}
 use native.Mathlib.Omega.{arith}
 use mathlib.Core.Path.{_≡_, refl, sym, ap, _∙_, subst}
 use mathlib.Core.Bool.{Bool, true, false, cond, _&&_}
@@ -10,10 +10,10 @@ use lib.Seq.{getD-set-same, getD-set-other, drop-length}
 use lib.Dec.{eqb, leb, ltb}
 use borrow.Author.Tests.{ltb-true, leb-true, eq-eqb, ne-eqb}
 use Rattle.paper.specs.Frame.{numbers}
-use Rattle.paper.specs.Log.{fresh, inForceNow, judgeStart}
+use Rattle.paper.specs.Log.{fresh, inForceNow, judgeStart, inRanges}
 use Rattle.paper.specs.Rank.{Query}
-use Rattle.paper.specs.Window.{inForce}
-use Rattle.paper.specs.Layout.{stateLength, recordAt, stateWords}
+use Rattle.paper.specs.Window.{inForce, mostMessages, longestLife}
+use Rattle.paper.specs.Layout.{stateLength, recordAt, stateWords, capacityAt, lifeAt, clockAt, oldestAt, countAt}
 use Rattle.paper.proofs.Tests.{and-true}
 use Rattle.paper.proofs.LogLaws.{fresh-sound}
 use Rattle.memory.specs.Words.{words, putWord}
@@ -48,23 +48,23 @@ none-at zero i = refl
 none-at (suc n) zero = refl
 none-at (suc n) (suc i) = none-at n i
 
-module _ (N T : ℕ) (N-least : 1 ≤ N) (N-most : N ≤ 256) (T-least : 1 ≤ T) (T-most : T ≤ 65535) where
+module _ (N T : ℕ) (N-least : 1 ≤ N) (N-most : N ≤ mostMessages) (T-least : 1 ≤ T) (T-most : T ≤ longestLife) where
   abbrev after : List ℕ
-  after = set (set (zeros stateWords) 0 N) 1 T
+  after = set (set (zeros stateWords) capacityAt N) lifeAt T
 
   fresh-words : words (freshMemory N T) ≡ after
   unfolding freshMemory
   fresh-words =
       let l : length (zeros stateLength) ≡ stateLength = length-replicate {A = ℕ} stateLength 0 in
-      let l′ = put-length (zeros stateLength) 0 N in
-      put-word (putWord (zeros stateLength) 0 N) 1 T (omega arith) (omega arith)
-      ∙ ap (λ (x : List ℕ). set x 1 T) (put-word (zeros stateLength) 0 N (omega arith) (omega arith) ∙ ap (λ (x : List ℕ). set x 0 N) (words-zeros stateWords))
+      let l′ = put-length (zeros stateLength) capacityAt N in
+      put-word (putWord (zeros stateLength) capacityAt N) lifeAt T (omega arith) (omega arith)
+      ∙ ap (λ (x : List ℕ). set x lifeAt T) (put-word (zeros stateLength) capacityAt N (omega arith) (omega arith) ∙ ap (λ (x : List ℕ). set x capacityAt N) (words-zeros stateWords))
 
-  -- past the first two words all is 0
-  rest : (i : ℕ) → 2 ≤ i → getD (after) i 0 ≡ 0
+  -- past N and T all is 0
+  rest : (i : ℕ) → lifeAt < i → getD (after) i 0 ≡ 0
   rest i h =
-      getD-set-other (set (zeros stateWords) 0 N) 1 i T 0 (λ e. omega arith)
-      ∙ getD-set-other (zeros stateWords) 0 i N 0 (λ e. omega arith)
+      getD-set-other (set (zeros stateWords) capacityAt N) lifeAt i T 0 (λ e. omega arith)
+      ∙ getD-set-other (zeros stateWords) capacityAt i N 0 (λ e. omega arith)
       ∙ zeros-at stateWords i
 
   empty-window : (w : List ℕ) (o n : ℕ) → n ≡ 0 → window w o n ≡ map stored (inForceNow (fresh N T))
@@ -77,16 +77,16 @@ module _ (N T : ℕ) (N-least : 1 ≤ N) (N-most : N ≤ 256) (T-least : 1 ≤ T
   held : Represents (fresh N T) after
   held =
       let l : length (zeros stateWords) ≡ stateWords = length-replicate {A = ℕ} stateWords 0 in
-      let l′ : length (set (zeros stateWords) 0 N) ≡ length (zeros stateWords) = length-set (zeros stateWords) 0 N in
+      let l′ : length (set (zeros stateWords) capacityAt N) ≡ length (zeros stateWords) = length-set (zeros stateWords) capacityAt N in
       record {
-        long = length-set (set (zeros stateWords) 0 N) 1 T ∙ l′ ∙ l;
-        capacity = getD-set-other (set (zeros stateWords) 0 N) 1 0 T 0 (λ e. omega arith) ∙ getD-set-same (zeros stateWords) 0 N 0 (omega arith);
-        life = getD-set-same (set (zeros stateWords) 0 N) 1 T 0 (omega arith);
-        clock = rest 2 (omega arith);
+        long = length-set (set (zeros stateWords) capacityAt N) lifeAt T ∙ l′ ∙ l;
+        capacity = getD-set-other (set (zeros stateWords) capacityAt N) lifeAt capacityAt T 0 (λ e. omega arith) ∙ getD-set-same (zeros stateWords) capacityAt N 0 (omega arith);
+        life = getD-set-same (set (zeros stateWords) capacityAt N) lifeAt T 0 (omega arith);
+        clock = rest clockAt (omega arith);
         capacity-most = N-most;
-        oldest-below = let e = rest 3 (omega arith) in omega arith;
-        count-below = let e = rest 4 (omega arith) in omega arith;
-        shows = empty-window after (oldestOf after) (countOf after) (rest 4 (omega arith));
+        oldest-below = let e = rest oldestAt (omega arith) in omega arith;
+        count-below = let e = rest countAt (omega arith) in omega arith;
+        shows = empty-window after (oldestOf after) (countOf after) (rest countAt (omega arith));
         sound = fresh-sound N T N-least T-least;
         records = λ q h. subst (HoldsAt after q (oldestOf after) (countOf after) (inForceNow (fresh N T))) (sym (none-at numbers q)) (empty-record q);
       }
@@ -96,29 +96,25 @@ module _ (N T : ℕ) (N-least : 1 ≤ N) (N-most : N ≤ 256) (T-least : 1 ≤ T
 
 -- ---- which starts are accepted
 
--- whether N and T are within their ranges
-abbrev within : ℕ → ℕ → Bool
-within N T = ltb 0 N && leb N 256 && (ltb 0 T && leb T 65535)
-
-in-ranges : (N T : ℕ) → within N T ≡ true → (1 ≤ N) × (N ≤ 256) × (1 ≤ T) × (T ≤ 65535)
+in-ranges : (N T : ℕ) → inRanges N T ≡ true → (1 ≤ N) × (N ≤ mostMessages) × (1 ≤ T) × (T ≤ longestLife)
 in-ranges N T e =
-    let p = and-true (ltb 0 N && leb N 256) (ltb 0 T && leb T 65535) e in
-    let n = and-true (ltb 0 N) (leb N 256) (p .0) in
-    let t = and-true (ltb 0 T) (leb T 65535) (p .1) in
-    (ltb-true 0 N (n .0), leb-true N 256 (n .1), ltb-true 0 T (t .0), leb-true T 65535 (t .1))
+    let p = and-true (ltb 0 N && leb N mostMessages) (ltb 0 T && leb T longestLife) e in
+    let n = and-true (ltb 0 N) (leb N mostMessages) (p .0) in
+    let t = and-true (ltb 0 T) (leb T longestLife) (p .1) in
+    (ltb-true 0 N (n .0), leb-true N mostMessages (n .1), ltb-true 0 T (t .0), leb-true T longestLife (t .1))
 
-judged : (N T state : ℕ) {b : Bool} → b ≡ within N T → judgeStart N T state ≡ cond b (cond (eqb state stateLength) 0 12) 11
+judged : (N T state : ℕ) {b : Bool} → b ≡ inRanges N T → judgeStart N T state ≡ cond b (cond (eqb state stateLength) 0 12) 11
 unfolding judgeStart
 judged N T state e = ap (λ (b : Bool). cond b (cond (eqb state stateLength) 0 12) 11) (sym e)
 
-accepted-within : (N T state : ℕ) → judgeStart N T state ≡ 0 → within N T ≡ true
-accepted-within N T state e = go (within N T) refl
+accepted-within : (N T state : ℕ) → judgeStart N T state ≡ 0 → inRanges N T ≡ true
+accepted-within N T state e = go (inRanges N T) refl
   where
-    go : (b : Bool) → b ≡ within N T → b ≡ true
+    go : (b : Bool) → b ≡ inRanges N T → b ≡ true
     go true t = refl
     go false t = let z : _≡_ {A = ℕ} 0 11 = sym e ∙ judged N T state t in absurd (omega arith)
 
-module _ (N T : ℕ) (s : List ℕ) {b : Bool} (test : b ≡ within N T) where
+module _ (N T : ℕ) (s : List ℕ) {b : Bool} (test : b ≡ inRanges N T) where
   pub out-of-range : b ≡ false → StartPost N T s 11 s
   out-of-range e = record {
     number = sym (judged N T (length s) (sym e ∙ test));
@@ -135,7 +131,7 @@ module _ (N T : ℕ) (s : List ℕ) {b : Bool} (test : b ≡ within N T) where
     }
 
     -- zeros, then N, then T
-    pub start-right : length s ≡ stateLength → {s₁ s₂ s₃ : List ℕ} → s₁ ≡ zeros (length s) → s₂ ≡ putWord s₁ 0 N → s₃ ≡ putWord s₂ 1 T → StartPost N T s 0 s₃
+    pub start-right : length s ≡ stateLength → {s₁ s₂ s₃ : List ℕ} → s₁ ≡ zeros (length s) → s₂ ≡ putWord s₁ capacityAt N → s₃ ≡ putWord s₂ lifeAt T → StartPost N T s 0 s₃
     unfolding freshMemory
     start-right l z n t = record {
       number = sym (judged N T (length s) (sym e ∙ test) ∙ rw (eq-eqb (length s) stateLength l) refl);
@@ -146,7 +142,7 @@ module _ (N T : ℕ) (s : List ℕ) {b : Bool} (test : b ≡ within N T) where
 pub fresh-length : (N T : ℕ) → length (freshMemory N T) ≡ stateLength
 unfolding freshMemory
 fresh-length N T =
-    put-length (putWord (zeros stateLength) 0 N) 1 T ∙ put-length (zeros stateLength) 0 N ∙ length-replicate {A = ℕ} stateLength 0
+    put-length (putWord (zeros stateLength) capacityAt N) lifeAt T ∙ put-length (zeros stateLength) capacityAt N ∙ length-replicate {A = ℕ} stateLength 0
 
 -- the memory that an accepted start left
 pub started : (N T state : ℕ) → judgeStart N T state ≡ 0 → Represents (fresh N T) (words (freshMemory N T))

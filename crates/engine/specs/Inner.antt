@@ -15,7 +15,7 @@ use Rattle.paper.specs.Layout.{slots, clockAt, oldestAt, countAt, recordAt, rec
 use Rattle.paper.specs.Demand3.{marked, bitmap}
 use Rattle.memory.specs.Words.{words}
 use Rattle.memory.specs.Keeps.{Keeps}
-use Rattle.window.specs.Cursor.{Written}
+use Rattle.window.specs.Cursor.{PutCursor, Written}
 use Rattle.query.specs.Record.{thresholds, HoldsAt}
 use Rattle.query.specs.Post.{Change}
 use Rattle.engine.specs.declared.Reply.{Reply}
@@ -24,13 +24,6 @@ use Rattle.engine.specs.Represents.{Represents, keeping}
 -- the same record, word for word
 abbrev pub SameRecord : List ℕ → List ℕ → ℕ → Type 0
 SameRecord w w′ q = (i : ℕ) → i < recordWords → getD w′ (recordAt q + i) 0 ≡ getD w (recordAt q + i) 0
-
--- the header's clock, oldest slot and count are written, and nothing else
-pub record PutCursor (clock oldest count : ℕ) (w w′ : List ℕ) : Type 0 where
-  pub keeps : Keeps clockAt (countAt + 1) w w′
-  pub clock-is : getD w′ clockAt 0 ≡ clock
-  pub oldest-is : getD w′ oldestAt 0 ≡ oldest
-  pub count-is : getD w′ countAt 0 ≡ count
 
 -- whether a message that goes or comes reaches the query at a number
 abbrev pub reachedIn : List ℕ → ℕ → Option Query → List Message → Bool

@@ -4,9 +4,9 @@ use mathlib.Core.Path.{_≡_}
 use mathlib.Core.Bool.{false}
 use mathlib.Core.List.{List, [], _++_}
 use lib.ListN.{length, take, drop, replicate}
-use Rattle.paper.specs.Frame.{shape, numbers}
+use Rattle.paper.specs.Frame.{shape, numbers, termWidth, mostListed}
 use Rattle.paper.specs.Frame.Shape.{refused}
-use Rattle.paper.specs.Layout.{stateLength, recordAt, recordWords}
+use Rattle.paper.specs.Layout.{stateLength, recordAt, recordWords, capacityAt, lifeAt}
 use Rattle.paper.specs.Log.{Log, Call, judgeStart, after, judgeList, listed, postingLength, posted, judgePostings}
 use Rattle.paper.specs.Demand3.{replyTo, markedBy}
 use Rattle.paper.specs.Demand3 as Demand3
@@ -31,9 +31,9 @@ recordBytes s q = take (4 * recordWords) (drop (4 * recordAt q) s)
 
 -- ---- start
 
--- zeros, but for N and T in the first two words
+-- zeros, but for N and T
 unfoldable pub freshMemory : ℕ → ℕ → List ℕ
-freshMemory N T = putWord (putWord (replicate stateLength 0) 0 N) 1 T
+freshMemory N T = putWord (putWord (replicate stateLength 0) capacityAt N) lifeAt T
 
 -- "Starting: 11, 12."
 pub record StartPost (N T : ℕ) (s : List ℕ) (r : ℕ) (s′ : List ℕ) : Type 0 where
@@ -66,7 +66,7 @@ pub record FramePost (s bytes : List ℕ) (r : Reply) (s′ : List ℕ) : Type 0
 pub record ListPost (s : List ℕ) (n : ℕ) (r : Listing) : Type 0 where
   pub not-lent : (length s ≡ stateLength → ⊥) → r .number ≡ 12
   pub no-number : length s ≡ stateLength → numbers ≤ n → r .number ≡ 10
-  pub most : r .list .count ≤ 16
+  pub most : r .list .count ≤ mostListed
   pub refused : (r .number ≡ 0 → ⊥) → (linesOf (r .list) ≡ []) × Tidy (r .list)
   pub right : (log : Log) → Represents log (words s) → length s ≡ stateLength
       → (r .number ≡ judgeList 0 log (length s) 0 n) × (linesOf (r .list) ≡ listed 0 log (length s) 0 n) × Tidy (r .list)
@@ -79,7 +79,7 @@ postedInto log t out = lineBytes (posted log t) ++ drop (postingLength * length 
 pub record PostingsPost (s : List ℕ) (t : ℕ) (out : List ℕ) (r : Found) (out′ : List ℕ) : Type 0 where
   pub long : length out′ ≡ length out
   pub not-lent : (length s ≡ stateLength → ⊥) → r .number ≡ 12
-  pub no-term : length s ≡ stateLength → 2 ^ 10 ≤ t → r .number ≡ 5
+  pub no-term : length s ≡ stateLength → 2 ^ termWidth ≤ t → r .number ≡ 5
   pub refused : (r .number ≡ 0 → ⊥) → (out′ ≡ out) × (r .count ≡ 0)
   pub right : (log : Log) → Represents log (words s) → length s ≡ stateLength
       → (r .number ≡ judgePostings log (length s) (length out) t) × (r .number ≡ 0 → (r .count ≡ length (posted log t)) × (out′ ≡ postedInto log t out))

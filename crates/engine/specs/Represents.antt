@@ -7,6 +7,7 @@ use mathlib.Core.Option.{none, some}
 use lib.ListN.{length, getD}
 use lib.Dec.{eqb}
 use Rattle.paper.specs.Frame.{numbers}
+use Rattle.paper.specs.Window.{mostMessages}
 use Rattle.paper.specs.Layout.{slots, stateWords, capacityAt, lifeAt, clockAt, oldestAt, countAt, recordAt, sizeIn}
 use Rattle.paper.specs.Log.{Log, queryAt, inForceNow}
 use Rattle.paper.specs.Sound.{Sound}
@@ -27,7 +28,7 @@ pub record Represents (log : Log) (w : List ℕ) : Type 0 where
   pub capacity : getD w capacityAt 0 ≡ log .N
   pub life : getD w lifeAt 0 ≡ log .T
   pub clock : getD w clockAt 0 ≡ log .clock
-  pub capacity-most : log .N ≤ 256
+  pub capacity-most : log .N ≤ mostMessages
   pub oldest-below : oldestOf w < slots
   pub count-below : countOf w < slots
   pub shows : window w (oldestOf w) (countOf w) ≡ map stored (inForceNow log)

@@ -1,20 +1,26 @@
 // The engine: frames in, a ranked list for each registered query kept in lent memory.
 ghost use mathlib.Core.Path.{_≡_};
 ghost use Prim.Native.Nat.{ℕ, _+_, _*_, _%_, _<_, _≤_, _^_};
-ghost use mathlib.Core.Bool.{_&&_};
-ghost use lib.Dec.{leb, ltb};
 ghost use lib.ListN.{length, getD, replicate};
-ghost use Rattle.paper.specs.Frame.{Frame, numbers};
+ghost use Rattle.paper.specs.Frame.{Frame, numbers, termWidth, countWidth, weightWidth, mostPairs, mostTerms, mostListed};
 ghost use Rattle.paper.specs.Write.{side-by-side};
-ghost use Rattle.paper.specs.Layout.{stateLength, slots};
+ghost use Rattle.paper.specs.Window.{mostMessages};
+ghost use Rattle.paper.specs.Layout.{stateLength, slots, capacityAt};
+ghost use Rattle.paper.specs.Log.{inRanges};
 ghost use Rattle.memory.specs.Words.{words};
 ghost use Rattle.engine.specs.Post.{StartPost, FramePost, ListPost, PostingsPost};
 ghost use Rattle.window.specs.Cursor.{Moved};
-ghost use Rattle.engine.specs.Inner.{PutCursor, Passed, Joined, Did, Ticked};
+ghost use Rattle.engine.specs.Inner.{Passed, Joined, Did, Ticked};
 use frame::Kind;
+use paper::MOST_PAIRS;
 use paper::layout;
 use rank::Ranked;
 use window::Cursor;
+
+// How many query numbers and how many terms there are, beside numbers and terms of 32 bits.
+const NUMBERS: u32 = paper::NUMBERS as u32;
+
+const TERMS: u32 = paper::TERMS as u32;
 
 pub struct Reply {
     pub number: u32,
@@ -44,7 +50,7 @@ fn refused(number: u32) -> Reply
 
 // Marks with that of q, which isn't among them.
 fn with_mark(marks: u32, q: usize) -> u32
-    requires { ⌜ q < 32 ⌝ }
+    requires { ⌜ q < numbers ⌝ }
     ensures { λ r. ⌜ r ≡ (marks + 2 ^ q) % 2 ^ 32 ⌝ }
 {
     ((marks as u64 + wire::pow2(q) as u64) % 4294967296) as u32
@@ -52,18 +58,18 @@ fn with_mark(marks: u32, q: usize) -> u32
 
 // Whether N and T are within their ranges.
 fn in_range(capacity: u32, life: u32) -> bool
-    ensures { λ r. ⌜ r ≡ (ltb 0 capacity && leb capacity 256 && (ltb 0 life && leb life 65535)) ⌝ }
+    ensures { λ r. ⌜ r ≡ inRanges capacity life ⌝ }
 {
     if capacity == 0 {
         return false;
     }
-    if 256 < capacity {
+    if paper::MOST_MESSAGES < capacity {
         return false;
     }
     if life == 0 {
         return false;
     }
-    life <= 65535
+    life <= paper::LONGEST_LIFE
 }
 
 // Every byte becomes 0.
@@ -111,7 +117,7 @@ fn update_all(
     query::add_moved(state, gone, departed, newest, &mut moved);
     let mut marks: u32 = 0;
     let mut q: usize = 0;
-    while q < 32 {
+    while q < paper::NUMBERS {
         if query::in_use(state, q) {
             if query::update(state, q, gone, departed, first, count, newest, &moved) {
                 marks += wire::pow2(q);
@@ -122,23 +128,17 @@ fn update_all(
     marks
 }
 
-fn put_cursor(state: &mut [u8], clock: u32, oldest: usize, count: usize)
-    requires { ⌜ length (now state) ≡ stateLength ⌝ }
-    requires { ⌜ (oldest < slots) × (count < slots) ⌝ }
-    ensures { λ _. ⌜ PutCursor clock oldest count (words (now (state .entry))) (words (now (state .exit))) ⌝ }
-{
-    memory::put(state, 2, clock);
-    memory::put(state, 3, oldest as u32);
-    memory::put(state, 4, count as u32);
-}
-
-// How many messages can be in force, at most 256 whatever memory holds.
+// How many messages can be in force, at most as many as the ring has room for whatever memory holds.
 fn capacity_of(state: &[u8]) -> u32
     requires { ⌜ length (now state) ≡ stateLength ⌝ }
-    ensures { λ r. ⌜ (r ≤ 256) × (getD (words (now (state .entry))) 0 0 ≤ 256 → r ≡ getD (words (now (state .entry))) 0 0) ⌝ }
+    ensures { λ r. ⌜ (r ≤ mostMessages) × (getD (words (now (state .entry))) capacityAt 0 ≤ mostMessages → r ≡ getD (words (now (state .entry))) capacityAt 0) ⌝ }
 {
     let capacity = memory::get(state, layout::CAPACITY);
-    if capacity < 256 { capacity } else { 256 }
+    if capacity < paper::MOST_MESSAGES {
+        capacity
+    } else {
+        paper::MOST_MESSAGES
+    }
 }
 
 // A message joins the window: `had` slots from slot `gone` on before, `count` from slot `oldest` on stay.
@@ -149,12 +149,12 @@ fn join(
     time: u32,
     serial: u32,
     m: usize,
-    terms: [u32; 16],
-    counts: [u32; 16],
+    terms: [u32; MOST_PAIRS],
+    counts: [u32; MOST_PAIRS],
 ) -> Reply
-    requires { ⌜ (length (now state) ≡ stateLength) × (m ≤ 16) ⌝ }
-    requires { ⌜ ((i : ℕ) → i < m → (getD terms i 0 < 1024) × (getD counts i 0 < 256)) ⌝ }
-    requires { ⌜ (before .oldest < slots) × (before .count < slots) × (after .count < 256) × Moved (before .oldest) (before .count) (after .oldest) (after .count) ⌝ }
+    requires { ⌜ (length (now state) ≡ stateLength) × (m ≤ mostPairs) ⌝ }
+    requires { ⌜ ((i : ℕ) → i < m → (getD terms i 0 < 2 ^ termWidth) × (getD counts i 0 < 2 ^ countWidth)) ⌝ }
+    requires { ⌜ (before .oldest < slots) × (before .count < slots) × (after .count < mostMessages) × Moved (before .oldest) (before .count) (after .oldest) (after .count) ⌝ }
     ensures { λ r. ⌜ Joined (record { time = time; serial = serial; pairs = side-by-side m terms counts }) (before .oldest) (before .count) (after .oldest) (after .count) (words (now (state .entry))) r (words (now (state .exit))) ⌝ }
 {
     let gone = before.oldest;
@@ -163,7 +163,7 @@ fn join(
     let departed = before.count - count;
     let newest = (oldest + count) % layout::SLOTS;
     window::put_message(state, newest, time, serial, m, terms, counts);
-    put_cursor(state, time, oldest, count + 1);
+    window::put_cursor(state, time, oldest, count + 1);
     let marks = update_all(state, gone, departed, oldest, count + 1, newest);
     Reply {
         number: 0,
@@ -177,12 +177,12 @@ fn message(
     time: u32,
     serial: u32,
     m: usize,
-    terms: [u32; 16],
-    counts: [u32; 16],
+    terms: [u32; MOST_PAIRS],
+    counts: [u32; MOST_PAIRS],
 ) -> Reply
     requires { ⌜ length (now state) ≡ stateLength ⌝ }
-    requires { ⌜ (1 ≤ m) × (m ≤ 16) ⌝ }
-    requires { ⌜ ((i : ℕ) → i < m → (getD terms i 0 < 1024) × (getD counts i 0 < 256)) ⌝ }
+    requires { ⌜ (1 ≤ m) × (m ≤ mostPairs) ⌝ }
+    requires { ⌜ ((i : ℕ) → i < m → (getD terms i 0 < 2 ^ termWidth) × (getD counts i 0 < 2 ^ countWidth)) ⌝ }
     ensures { λ r. ⌜ Did (Frame.message time serial (side-by-side m terms counts)) (now (state .entry)) r (now (state .exit)) ⌝ }
 {
     let before = Cursor::load(state);
@@ -211,7 +211,7 @@ fn advance(state: &mut [u8], time: u32) -> Reply
     let oldest = after.oldest;
     let count = after.count;
     let departed = had - count;
-    put_cursor(state, time, oldest, count);
+    window::put_cursor(state, time, oldest, count);
     let marks = update_all(state, gone, departed, oldest, count, layout::SLOTS);
     Reply {
         number: 0,
@@ -240,8 +240,8 @@ fn register(
     weights: [u32; 16],
 ) -> Reply
     requires { ⌜ length (now state) ≡ stateLength ⌝ }
-    requires { ⌜ (number < 32) × (1 ≤ k) × (k ≤ 16) × (1 ≤ n) × (n ≤ 8) ⌝ }
-    requires { ⌜ ((i : ℕ) → i < n → (getD terms i 0 < 1024) × (getD weights i 0 < 16)) ⌝ }
+    requires { ⌜ (number < numbers) × (1 ≤ k) × (k ≤ mostListed) × (1 ≤ n) × (n ≤ mostTerms) ⌝ }
+    requires { ⌜ ((i : ℕ) → i < n → (getD terms i 0 < 2 ^ termWidth) × (getD weights i 0 < 2 ^ weightWidth)) ⌝ }
     ensures { λ r. ⌜ Did (Frame.register time number k (side-by-side n terms weights)) (now (state .entry)) r (now (state .exit)) ⌝ }
 {
     if time < memory::get(state, layout::CLOCK) {
@@ -264,7 +264,7 @@ fn register(
 
 fn unregister(state: &mut [u8], time: u32, number: usize) -> Reply
     requires { ⌜ length (now state) ≡ stateLength ⌝ }
-    requires { ⌜ number < 32 ⌝ }
+    requires { ⌜ number < numbers ⌝ }
     ensures { λ r. ⌜ Did (Frame.unregister time number) (now (state .entry)) r (now (state .exit)) ⌝ }
 {
     if time < memory::get(state, layout::CLOCK) {
@@ -319,7 +319,7 @@ pub fn list(state: &[u8], number: u32) -> Listing
             list: Ranked::none(),
         };
     }
-    if 31 < number {
+    if NUMBERS <= number {
         return Listing {
             number: 10,
             list: Ranked::none(),
@@ -348,7 +348,7 @@ pub fn postings(state: &[u8], term: u32, out: &mut [u8]) -> Found
             count: 0,
         };
     }
-    if 1023 < term {
+    if TERMS <= term {
         return Found {
             number: 5,
             count: 0,

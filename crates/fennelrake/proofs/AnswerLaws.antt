@@ -1,5 +1,5 @@
 -- Laws of the answers to a frame and to a list reading: what a host hears of the words that were written. Assumes nothing.
-use Prim.Native.Nat.{ℕ, zero, suc, _+_, _/_, _%_, _≤_, _<_}
+use Prim.Native.Nat.{ℕ, zero, suc, _+_, _/_, _%_, _≤_, _<_, _*_}
 use native.Mathlib.Omega.{arith}
 use mathlib.Core.Path.{_≡_, refl, sym, ap, _∙_, subst}
 use mathlib.Core.Logic.{inl}
@@ -9,6 +9,7 @@ use mir.Val.{Fits}
 use lib.ListN.{length, getD, set, take, drop, replicate, length-append, length-drop, take-append-drop, length-set}
 use lib.Seq.{take-all, take-at, drop-at, getD-drop, getD-set-same, getD-set-other, ext-getD}
 use borrow.Author.Tests.{ne-eqb}
+use Rattle.paper.specs.Frame.{mostListed}
 use Rattle.memory.specs.Words.{word, words, putWord}
 use Rattle.memory.specs.Keeps.{Keeps, Stored}
 use Rattle.memory.proofs.WordLaws.{put-word, put-length, words-length}
@@ -90,7 +91,7 @@ zeros (suc n) zero = refl
 zeros (suc n) (suc i) = zeros n i
 
 none-tidy : Tidy noEntry
-none-tidy = record { serials = λ i _. zeros 16 i; scores = λ i _. zeros 16 i }
+none-tidy = record { serials = λ i _. zeros mostListed i; scores = λ i _. zeros mostListed i }
 
 none-listed : linesOf noEntry ≡ []
 unfolding listed
@@ -121,31 +122,31 @@ words-append (a ∷ b ∷ []) t h = absurd (omega arith)
 words-append (a ∷ b ∷ c ∷ []) t h = absurd (omega arith)
 words-append (a ∷ b ∷ c ∷ d ∷ s) t h = ap (λ (w : List ℕ). word a b c d ∷ w) (words-append s t (omega arith))
 
--- 33 words are the first, sixteen and sixteen
-in-three : (w : List ℕ) → length w ≡ 33 → w ≡ getD w 0 0 ∷ (take 16 (drop 1 w) ++ take 16 (drop 17 w))
+-- the words of a list answer are the first, the serials and the scores
+in-three : (w : List ℕ) → 4 * length w ≡ listAnswer → w ≡ getD w 0 0 ∷ (take mostListed (drop 1 w) ++ take mostListed (drop (1 + mostListed) w))
 in-three [] h = absurd (omega arith)
-in-three (x ∷ w) h = rw (take-all 16 (drop 16 w) (simp length-drop (omega arith)), take-append-drop 16 w)
+in-three (x ∷ w) h = rw (take-all mostListed (drop mostListed w) (simp length-drop (omega arith)), take-append-drop mostListed w)
 
 -- the number of entries, the serials and the scores are written
 pub list-words : (a : List ℕ) {a₁ w₂ w₃ serials scores : List ℕ} {count : ℕ} → length a ≡ listAnswer → Fits w32 count → a₁ ≡ putWord a 0 count
-    → Stored 1 16 serials (words a₁) w₂ → Stored 17 16 scores w₂ w₃ → w₃ ≡ count ∷ (serials ++ scores)
+    → Stored 1 mostListed serials (words a₁) w₂ → Stored (1 + mostListed) mostListed scores w₂ w₃ → w₃ ≡ count ∷ (serials ++ scores)
 list-words a {a₁} {w₂} {w₃} {serials} {scores} {count} l f e p q =
     let w₁ : words a₁ ≡ set (words a) 0 count = rw e (put-word a 0 count (omega arith) (f .fits)) in
-    let long : length (words a₁) ≡ 33 = rw w₁ (length-set (words a) 0 count ∙ words-length a ∙ ap (λ (n : ℕ). n / 4) l) in
+    let long : 4 * length (words a₁) ≡ listAnswer = rw w₁ (omega (arith, length-set (words a) 0 count, words-length a)) in
     let first : getD w₃ 0 0 ≡ count =
     q .keeps .below 0 (omega arith) ∙ p .keeps .below 0 (omega arith) ∙ rw w₁ (getD-set-same (words a) 0 count 0 (omega (arith, words-length a))) in
-    let second : take 16 (drop 1 w₃) ≡ serials = keeps-part (q .keeps) 1 16 (inl (omega arith)) ∙ p .reads in
-    in-three w₃ (q .keeps .long ∙ p .keeps .long ∙ long) ∙ rw (first, second, q .reads)
+    let second : take mostListed (drop 1 w₃) ≡ serials = keeps-part (q .keeps) 1 mostListed (inl (omega arith)) ∙ p .reads in
+    in-three w₃ (omega (arith, q .keeps .long, p .keeps .long)) ∙ rw (first, second, q .reads)
 
-module _ (part a : List ℕ) (r : Listing) (h : listAnswer ≤ length a) (lp : length part ≡ listAnswer) (ls : length (r .list .serials) ≡ 16)
-    (lc : length (r .list .scores) ≡ 16) (e : words part ≡ r .list .count ∷ (r .list .serials ++ r .list .scores)) where
+module _ (part a : List ℕ) (r : Listing) (h : listAnswer ≤ length a) (lp : length part ≡ listAnswer) (ls : length (r .list .serials) ≡ mostListed)
+    (lc : length (r .list .scores) ≡ mostListed) (e : words part ≡ r .list .count ∷ (r .list .serials ++ r .list .scores)) where
   heard-ranked : r .list ≡ heardRanked (words (part ++ drop listAnswer a))
   heard-ranked =
       let ss : List ℕ = r .list .serials in
       let cs : List ℕ = r .list .scores in
       let rest : List ℕ = words (drop listAnswer a) in
-      let first : take 16 ((ss ++ cs) ++ rest) ≡ ss = rw append-assoc (take-at ss (cs ++ rest) 16 ls) in
-      let second : take 16 (drop 16 ((ss ++ cs) ++ rest)) ≡ cs = rw (append-assoc, drop-at ss (cs ++ rest) 16 ls) (take-at cs rest 16 lc) in
+      let first : take mostListed ((ss ++ cs) ++ rest) ≡ ss = rw append-assoc (take-at ss (cs ++ rest) mostListed ls) in
+      let second : take mostListed (drop mostListed ((ss ++ cs) ++ rest)) ≡ cs = rw (append-assoc, drop-at ss (cs ++ rest) mostListed ls) (take-at cs rest mostListed lc) in
       rw (words-append part (drop listAnswer a) (rw lp), e) (λ i. record { serials = sym first i; scores = sym second i; count = r .list .count })
 
   pub list-accepted : {s : List ℕ} {n : ℕ} → r .number ≡ 0 → ListPost s n r → ListEntry s n a (r .number) (part ++ drop listAnswer a)

@@ -6,6 +6,7 @@ use mathlib.Core.Bool.{cond}
 use mathlib.Core.List.{List, [], _∷_}
 use lib.ListN.{length, getD, take, drop, replicate}
 use lib.Dec.{eqb}
+use Rattle.paper.specs.Frame.{mostListed}
 use Rattle.memory.specs.Words.{words}
 use Rattle.rank.specs.declared.Ranked.{Ranked}
 use Rattle.frame.specs.declared.Written.{Written}
@@ -14,12 +15,12 @@ use Rattle.engine.specs.declared.Listing.{Listing}
 use Rattle.engine.specs.declared.Found.{Found}
 use Rattle.engine.specs.Post.{FramePost, ListPost}
 
--- how many bytes the answers take: marks and departures; the number of entries, sixteen serials and sixteen scores
+-- how many bytes the answers take, in words of four: marks and departures; the number of entries, then serials and scores
 abbrev pub frameAnswer : ℕ
-frameAnswer = 8
+frameAnswer = 4 * 2
 
 abbrev pub listAnswer : ℕ
-listAnswer = 132
+listAnswer = 4 * (1 + 2 * mostListed)
 
 -- "A refusal returns its number, all else returned is 0, and no memory changes." "Output past what a call writes is unchanged."
 pub record Output (written number : ℕ) (a a′ : List ℕ) : Type 0 where
@@ -47,10 +48,10 @@ pub record FrameEntry (s bytes a : List ℕ) (r : ℕ) (s′ a′ : List ℕ) : 
 
 -- the number of entries is the first word of the answer, then the serials, then the scores; no entry with a refusal
 abbrev pub heardRanked : List ℕ → Ranked
-heardRanked w = record { serials = take 16 (drop 1 w); scores = take 16 (drop 17 w); count = getD w 0 0 }
+heardRanked w = record { serials = take mostListed (drop 1 w); scores = take mostListed (drop (1 + mostListed) w); count = getD w 0 0 }
 
 abbrev pub noEntry : Ranked
-noEntry = record { serials = replicate 16 0; scores = replicate 16 0; count = 0 }
+noEntry = record { serials = replicate mostListed 0; scores = replicate mostListed 0; count = 0 }
 
 abbrev pub heardListing : ℕ → List ℕ → Listing
 heardListing r a = record { number = r; list = cond (eqb r 0) (heardRanked (words a)) noEntry }

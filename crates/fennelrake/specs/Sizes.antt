@@ -6,19 +6,20 @@ use lib.ListN.{length}
 use Rattle.wire.specs.Bits.{Bytes}
 use Rattle.paper.specs.Frame.{Frame, shape, messageHead, countWidth, mostPairs, bitsOf, bytesFor}
 use Rattle.paper.specs.Frame.Shape.{accepted}
+use Rattle.paper.specs.Window.{mostMessages}
 use Rattle.paper.specs.Layout.{stateLength}
 use Rattle.paper.specs.Log.{Log, postingLength, posted}
 use Rattle.fennelrake.specs.Entry.{frameAnswer, listAnswer}
 
--- room for every frame that is accepted: a message of sixteen pairs is the longest
+-- room for every frame that is accepted: a message of the most pairs is the longest
 abbrev pub frameRoom : ℕ
 frameRoom = bytesFor (bitsOf messageHead countWidth mostPairs)
 
--- room for every reading of postings: 256 messages in force that all have the term
+-- room for every reading of postings: the most messages in force, which all have the term
 abbrev pub postingsRoom : ℕ
-postingsRoom = postingLength * 256
+postingsRoom = postingLength * mostMessages
 
 pub record Sizes : Type 0 where
   pub frames : (bytes : List ℕ) (f : Frame) → Bytes bytes → shape bytes ≡ accepted f → length bytes ≤ frameRoom
-  pub postings : (log : Log) (t : ℕ) → log .N ≤ 256 → postingLength * length (posted log t) ≤ postingsRoom
+  pub postings : (log : Log) (t : ℕ) → log .N ≤ mostMessages → postingLength * length (posted log t) ≤ postingsRoom
   pub within : stateLength + frameRoom + frameAnswer + listAnswer + postingsRoom ≤ 65536

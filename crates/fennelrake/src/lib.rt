@@ -7,12 +7,15 @@ ghost use Rattle.paper.specs.Write.{fromFields};
 ghost use Rattle.memory.specs.Words.{words};
 ghost use Rattle.frame.specs.Write.{fields, WritePost};
 ghost use Rattle.engine.specs.Post.{StartPost, PostingsPost};
-ghost use Rattle.fennelrake.specs.Entry.{FrameEntry, ListEntry, termsOf, heardFound, heardWriting};
+ghost use Rattle.fennelrake.specs.Entry.{listAnswer, FrameEntry, ListEntry, termsOf, heardFound, heardWriting};
+use paper::MOST_LISTED;
 
-// How many bytes the answers to a frame and to a list reading take.
-const FRAME_ANSWER: usize = 8;
+// How many bytes the answers to a frame and to a list reading take, and where in the latter the scores start, in words.
+const FRAME_ANSWER: usize = 4 * 2;
 
-const LIST_ANSWER: usize = 132;
+const LIST_ANSWER: usize = 4 * (1 + 2 * MOST_LISTED);
+
+const LIST_SCORES: usize = 1 + MOST_LISTED;
 
 #[no_mangle]
 pub extern "C" fn fennelrake_start(state: &mut [u8], capacity: u32, life: u32) -> u32
@@ -38,13 +41,13 @@ pub extern "C" fn fennelrake_frame(state: &mut [u8], bytes: &[u8], answer: &mut 
     reply.number
 }
 
-fn put_list(answer: &mut [u8], count: u32, serials: [u32; 16], scores: [u32; 16])
-    requires { ⌜ length (now answer) ≡ 132 ⌝ }
+fn put_list(answer: &mut [u8], count: u32, serials: [u32; MOST_LISTED], scores: [u32; MOST_LISTED])
+    requires { ⌜ length (now answer) ≡ listAnswer ⌝ }
     ensures { λ _. ⌜ words (now (answer .exit)) ≡ count ∷ (serials ++ scores) ⌝ }
 {
     memory::put(answer, 0, count);
     memory::store16(answer, 1, serials);
-    memory::store16(answer, 17, scores);
+    memory::store16(answer, LIST_SCORES, scores);
 }
 
 // The answer: the number of entries, sixteen serials and sixteen scores, four bytes each.

@@ -1,6 +1,6 @@
 -- Laws of cells: a cell gives its parts back, and a message's cells its pairs, its impacts and their rising terms; and the sum of squares.
 -- Assumes nothing.
-use Prim.Native.Nat.{ℕ, zero, suc, _+_, _*_, _≤_, _<_}
+use Prim.Native.Nat.{ℕ, zero, suc, _+_, _*_, _^_, _≤_, _<_}
 use native.Mathlib.Nat.{not-suc-le-zero}
 use native.Mathlib.Numerals.{add-one}
 use native.Mathlib.Omega.{arith}
@@ -11,17 +11,17 @@ use lib.ListN.{length, getD, take, length-map, List·getD-map}
 use lib.Seq.{getD-take}
 use lib.Dec.{eqb, leb, ltb}
 use borrow.Author.Tests.{ltb-true, leb-true, ne-eqb}
-use Rattle.paper.specs.Frame.{Pair, Pairs, AllFit, countWidth, mostPairs, positive, rises}
+use Rattle.paper.specs.Frame.{Pair, Pairs, AllFit, termWidth, countWidth, mostPairs, positive, rises}
 use Rattle.paper.specs.Impact.{impact, squares, countOf, impactIn}
 use Rattle.paper.specs.Write.{side-by-side}
 use Rattle.paper.proofs.Tests.{and-true}
 use Rattle.paper.proofs.ImpactLaws.{impact-most}
 use Rattle.paper.proofs.WriteLaws.{length-side}
-use Rattle.impact.specs.Cell.{packed, cellTerm, cellImpact, cellOf, cellsOf, squaresOf, lookup, RisingCells, RisingTerms}
+use Rattle.impact.specs.Cell.{impactWidth, packed, cellTerm, cellImpact, cellOf, cellsOf, squaresOf, lookup, RisingCells, RisingTerms}
 
 -- ---- a cell and its parts
 
-module _ {t f v : ℕ} (term : t < 1024) (count : f < 256) (small : v < 16384) where
+module _ {t f v : ℕ} (term : t < 2 ^ termWidth) (count : f < 2 ^ countWidth) (small : v < 2 ^ impactWidth) where
   pub packed-term : cellTerm (packed t f v) ≡ t
   packed-term = omega arith
 
@@ -34,7 +34,7 @@ abbrev terms : List Pair → List ℕ
 terms ps = map (λ p. p .term) ps
 
 -- an impact has fourteen bits
-impact-small : (f n : ℕ) → impact f n < 16384
+impact-small : (f n : ℕ) → impact f n < 2 ^ impactWidth
 impact-small f n = let h = impact-most f n in omega arith
 
 pub length-cells : (ps : List Pair) → length (cellsOf ps) ≡ length ps

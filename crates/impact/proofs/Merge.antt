@@ -1,5 +1,5 @@
 -- The walk over a message's cells and a query's terms: the loop of `impacts`, a law for each of its turns and ends. Assumes nothing.
-use Prim.Native.Nat.{ℕ, zero, suc, _+_, _*_, _≤_, _<_}
+use Prim.Native.Nat.{ℕ, zero, suc, _+_, _*_, _^_, _≤_, _<_}
 use native.Mathlib.Nat.{le-refl, le-of-lt, eq-or-lt-of-le, add-zero}
 use native.Mathlib.Numerals.{add-one}
 use native.Mathlib.Omega.{arith}
@@ -12,9 +12,10 @@ use lib.Seq.{drop-cons, getD-drop, getD-take, getD-set-same, getD-set-other}
 use lib.Dec.{eqb, ltb}
 use borrow.Author.Count.{below-more}
 use borrow.Author.Tests.{ltb-true, ltb-false, eq-eqb, ne-eqb, eqb-true, eqb-false}
+use Rattle.paper.specs.Frame.{mostTerms}
 use Rattle.memory.specs.Words.{words}
 use Rattle.memory.proofs.WordLaws.{words-length}
-use Rattle.impact.specs.Cell.{cellTerm, cellImpact, lookup, RisingCells, RisingTerms, Looked}
+use Rattle.impact.specs.Cell.{impactWidth, cellTerm, cellImpact, lookup, RisingCells, RisingTerms, Looked}
 
 -- ---- the cells in memory
 
@@ -57,8 +58,8 @@ lookup-past t i cs rise above = lookup-none t (drop i cs) past
 
 -- The terms before q have their impacts, the others 0 so far; those are to be looked up among the cells from i on.
 pub record Walked (cs ts : List ℕ) (n i q : ℕ) (found : List ℕ) : Type 0 where
-  pub long : length found ≡ 8
-  pub small : (j : ℕ) → getD found j 0 < 16384
+  pub long : length found ≡ mostTerms
+  pub small : (j : ℕ) → getD found j 0 < 2 ^ impactWidth
   pub rest : (j : ℕ) → q ≤ j → getD found j 0 ≡ 0
   pub right : RisingCells cs → RisingTerms n ts → (j : ℕ) → j < q → getD found j 0 ≡ lookup (getD ts j 0) cs
   pub left : RisingCells cs → RisingTerms n ts → (j : ℕ) → q ≤ j → j < n → lookup (getD ts j 0) cs ≡ lookup (getD ts j 0) (drop i cs)
@@ -68,11 +69,11 @@ all-zero zero j = refl
 all-zero (suc k) zero = refl
 all-zero (suc k) (suc j) = all-zero k j
 
-pub start : {cs ts : List ℕ} {n : ℕ} → Walked cs ts n 0 0 (replicate 8 0)
+pub start : {cs ts : List ℕ} {n : ℕ} → Walked cs ts n 0 0 (replicate mostTerms 0)
 start = record {
   long = refl;
-  small = λ j. rw (all-zero 8 j) (omega arith);
-  rest = λ j h. all-zero 8 j;
+  small = λ j. rw (all-zero mostTerms j) (omega arith);
+  rest = λ j h. all-zero mostTerms j;
   right = λ c t j h. absurd (omega arith);
   left = λ c t j h k. refl;
 }
@@ -101,10 +102,10 @@ module _ {cs ts found : List ℕ} {n i q : ℕ} (w : Walked cs ts n i q found) (
   }
 
   module _ (v : ℕ) (is : v ≡ cellImpact (getD cs i 0)) (room : q < length found) where
-    still-small : (j : ℕ) → getD (set found q v) j 0 < 16384
+    still-small : (j : ℕ) → getD (set found q v) j 0 < 2 ^ impactWidth
     still-small j = go (eqb j q) refl
       where
-        go : (t : Bool) → eqb j q ≡ t → getD (set found q v) j 0 < 16384
+        go : (t : Bool) → eqb j q ≡ t → getD (set found q v) j 0 < 2 ^ impactWidth
         go true e = rw (eqb-true j q e, getD-set-same found q v 0 room) (omega arith)
         go false e = rw (getD-set-other found q j v 0 (eqb-false j q e)) (w .small j)
 

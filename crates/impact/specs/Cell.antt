@@ -1,22 +1,31 @@
 -- A cell: one pair of a message with its impact, packed into a word. Assumes nothing.
-use Prim.Native.Nat.{ℕ, zero, suc, _+_, _*_, _/_, _%_, _≤_, _<_}
+use Prim.Native.Nat.{ℕ, zero, suc, _+_, _*_, _/_, _%_, _^_, _≤_, _<_}
 use mathlib.Core.Path.{_≡_}
 use mathlib.Core.Bool.{cond}
 use mathlib.Core.List.{List, [], _∷_, map}
 use lib.ListN.{length, getD}
 use lib.Dec.{eqb}
-use Rattle.paper.specs.Frame.{Pair}
+use Rattle.paper.specs.Frame.{Pair, countWidth}
 use Rattle.paper.specs.Impact.{impact, squares}
 
 -- ten bits of term, eight of count, fourteen of impact
+abbrev pub impactWidth : ℕ
+impactWidth = 14
+
+abbrev pub countFactor : ℕ
+countFactor = 2 ^ impactWidth
+
+abbrev pub termFactor : ℕ
+termFactor = countFactor * 2 ^ countWidth
+
 abbrev pub packed : ℕ → ℕ → ℕ → ℕ
-packed term count impact = term * 4194304 + count * 16384 + impact
+packed term count impact = term * termFactor + count * countFactor + impact
 
 abbrev pub cellTerm : ℕ → ℕ
-cellTerm c = c / 4194304
+cellTerm c = c / termFactor
 
 abbrev pub cellImpact : ℕ → ℕ
-cellImpact c = c % 16384
+cellImpact c = c % countFactor
 
 -- the cell of a pair of a message whose counts squared sum to n
 abbrev pub cellOf : ℕ → Pair → ℕ
@@ -44,9 +53,9 @@ RisingCells cs = (i j : ℕ) → i < j → j < length cs → cellTerm (getD cs i
 abbrev pub RisingTerms : ℕ → List ℕ → Type 0
 RisingTerms n ts = (i j : ℕ) → i < j → j < n → getD ts i 0 < getD ts j 0
 
--- A message's impacts in the first n of a query's terms. Whatever memory holds they are below 2 to the 14th; where both rise, as in any message
--- and query, they are right.
+-- A message's impacts in the first n of a query's terms. Whatever memory holds they have fourteen bits; where both rise, as in any message and
+-- query, they are right.
 pub record Looked (cs ts : List ℕ) (n : ℕ) (r : List ℕ) : Type 0 where
-  pub small : (i : ℕ) → getD r i 0 < 16384
+  pub small : (i : ℕ) → getD r i 0 < 2 ^ impactWidth
   pub unused : (i : ℕ) → n ≤ i → getD r i 0 ≡ 0
   pub right : RisingCells cs → RisingTerms n ts → (i : ℕ) → i < n → getD r i 0 ≡ lookup (getD ts i 0) cs

@@ -1,10 +1,11 @@
 // The impact of a term in a message: the cosine of document 001, scaled to whole numbers.
 ghost use mathlib.Core.Path.{_≡_};
-ghost use Prim.Native.Nat.{ℕ, _+_, _*_, _<_, _≤_};
+ghost use Prim.Native.Nat.{ℕ, _+_, _*_, _^_, _<_, _≤_};
 ghost use lib.ListN.{length, getD, take, drop};
+ghost use Rattle.paper.specs.Frame.{termWidth, countWidth, mostPairs, mostTerms};
 ghost use Rattle.paper.specs.Impact.{impact};
 ghost use Rattle.memory.specs.Words.{words};
-ghost use Rattle.impact.specs.Cell.{packed, squaresOf, Looked};
+ghost use Rattle.impact.specs.Cell.{impactWidth, packed, squaresOf, Looked};
 
 pub struct Impact {
     pub value: u32,
@@ -16,7 +17,7 @@ impl Impact {
 
     // The impact of a count in a message whose counts squared sum to `squares`, by halving the scale.
     pub fn of(count: u32, squares: u32) -> Impact
-        requires { ⌜ count < 256 ⌝ }
+        requires { ⌜ count < 2 ^ countWidth ⌝ }
         ensures { λ r. ⌜ r .value ≡ impact count squares ⌝ }
     {
         let reach = (Impact::TOP as u64) * (count as u64);
@@ -37,17 +38,22 @@ impl Impact {
     }
 }
 
+// In a cell's word the impact has fourteen bits, the count eight above it, and the term those above.
+pub const COUNT_FACTOR: u32 = 1 << 14;
+
+pub const TERM_FACTOR: u32 = COUNT_FACTOR << 8;
+
 // A pair and its impact in one word.
 pub fn cell(term: u32, count: u32, impact: u32) -> u32
-    requires { ⌜ (term < 1024) × (count < 256) × (impact < 16384) ⌝ }
+    requires { ⌜ (term < 2 ^ termWidth) × (count < 2 ^ countWidth) × (impact < 2 ^ impactWidth) ⌝ }
     ensures { λ r. ⌜ r ≡ packed term count impact ⌝ }
 {
-    term * 4194304 + count * 16384 + impact
+    term * TERM_FACTOR + count * COUNT_FACTOR + impact
 }
 
 // The sum of the first m counts squared.
-pub fn squared(counts: [u32; 16], m: usize) -> u32
-    requires { ⌜ (m ≤ 16) × ((i : ℕ) → i < m → getD counts i 0 < 256) ⌝ }
+pub fn squared(counts: [u32; paper::MOST_PAIRS], m: usize) -> u32
+    requires { ⌜ (m ≤ mostPairs) × ((i : ℕ) → i < m → getD counts i 0 < 2 ^ countWidth) ⌝ }
     ensures { λ r. ⌜ r ≡ squaresOf m counts ⌝ }
 {
     let mut sum: u32 = 0;
@@ -62,7 +68,7 @@ pub fn squared(counts: [u32; 16], m: usize) -> u32
 
 // The impacts that the message whose m cells start at word `at` has in the first n terms of a query: one walk over both, which rise.
 pub fn impacts(s: &[u8], at: usize, m: usize, terms: [u32; 8], n: usize) -> [u32; 8]
-    requires { ⌜ (4 * (at + m) ≤ length (now s)) × (n ≤ 8) ⌝ }
+    requires { ⌜ (4 * (at + m) ≤ length (now s)) × (n ≤ mostTerms) ⌝ }
     ensures { λ r. ⌜ Looked (take m (drop at (words (now (s .entry))))) terms n r ⌝ }
 {
     let mut found = [0u32; 8];
@@ -73,14 +79,14 @@ pub fn impacts(s: &[u8], at: usize, m: usize, terms: [u32; 8], n: usize) -> [u32
             return found;
         }
         let c = memory::get(s, at + i);
-        let has = c / 4194304;
+        let has = c / TERM_FACTOR;
         let wants = terms[q];
         if has < wants {
             i += 1;
         } else if wants < has {
             q += 1;
         } else {
-            found[q] = c % 16384;
+            found[q] = c % COUNT_FACTOR;
             i += 1;
             q += 1;
         }

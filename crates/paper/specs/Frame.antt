@@ -23,17 +23,26 @@ pub data Frame : Type 0 where
 
 -- ---- the table: the widths of a kind's fields before its pairs, and of a pair
 
+abbrev pub timeWidth : ℕ
+timeWidth = 32
+
+abbrev pub serialWidth : ℕ
+serialWidth = 20
+
+abbrev pub numberWidth : ℕ
+numberWidth = 5
+
 abbrev pub messageHead : List ℕ
-messageHead = 4 ∷ 32 ∷ 20 ∷ 4 ∷ []
+messageHead = 4 ∷ timeWidth ∷ serialWidth ∷ 4 ∷ []
 
 abbrev pub tickHead : List ℕ
-tickHead = 4 ∷ 32 ∷ []
+tickHead = 4 ∷ timeWidth ∷ []
 
 abbrev pub registerHead : List ℕ
-registerHead = 4 ∷ 32 ∷ 5 ∷ 4 ∷ 3 ∷ []
+registerHead = 4 ∷ timeWidth ∷ numberWidth ∷ 4 ∷ 3 ∷ []
 
 abbrev pub unregisterHead : List ℕ
-unregisterHead = 4 ∷ 32 ∷ 5 ∷ []
+unregisterHead = 4 ∷ timeWidth ∷ numberWidth ∷ []
 
 abbrev pub termWidth : ℕ
 termWidth = 10
@@ -56,7 +65,7 @@ mostListed = 16
 
 -- query numbers are 0 to 31
 abbrev pub numbers : ℕ
-numbers = 32
+numbers = 2 ^ numberWidth
 
 -- m pairs, whose count or weight has w bits
 unfoldable pub pairWidths : ℕ → ℕ → List ℕ
@@ -135,19 +144,19 @@ check s head w m make =
     (refused 3)
 
 abbrev pub timeOfBytes : List ℕ → ℕ
-timeOfBytes s = field s 4 32
+timeOfBytes s = field s 4 timeWidth
 
 -- 2, or the rest by the kind
 unfoldable pub shapeOfKind : ℕ → List ℕ → Shape
 shapeOfKind kind s =
     cond (eqb kind 1)
-    (check s messageHead countWidth (field s 56 4 + 1) (message (timeOfBytes s) (field s 36 20)))
+    (check s messageHead countWidth (field s 56 4 + 1) (message (timeOfBytes s) (field s 36 serialWidth)))
     (cond (eqb kind 2)
     (check s tickHead 0 0 (λ _. tick (timeOfBytes s)))
     (cond (eqb kind 3)
-    (check s registerHead weightWidth (field s 45 3 + 1) (register (timeOfBytes s) (field s 36 5) (field s 41 4 + 1)))
+    (check s registerHead weightWidth (field s 45 3 + 1) (register (timeOfBytes s) (field s 36 numberWidth) (field s 41 4 + 1)))
     (cond (eqb kind 4)
-    (check s unregisterHead 0 0 (λ _. unregister (timeOfBytes s) (field s 36 5)))
+    (check s unregisterHead 0 0 (λ _. unregister (timeOfBytes s) (field s 36 numberWidth)))
     (refused 2))))
 
 -- the first of the refusals 1 to 6 that applies, or the frame
@@ -170,20 +179,20 @@ pub record Pairs (w most : ℕ) (ps : List Pair) : Type 0 where
   pub in-order : rising ps ≡ true
 
 pub record ValidMessage (t s : ℕ) (ps : List Pair) : Type 0 where
-  pub time : t < 2 ^ 32
-  pub serial : s < 2 ^ 20
+  pub time : t < 2 ^ timeWidth
+  pub serial : s < 2 ^ serialWidth
   pub pairs : Pairs countWidth mostPairs ps
 
 pub record ValidQuery (t n k : ℕ) (ps : List Pair) : Type 0 where
-  pub time : t < 2 ^ 32
-  pub number : n < 2 ^ 5
+  pub time : t < 2 ^ timeWidth
+  pub number : n < numbers
   pub k-least : 1 ≤ k
-  pub k-most : k ≤ 2 ^ 4
+  pub k-most : k ≤ mostListed
   pub terms : Pairs weightWidth mostTerms ps
 
 -- every field is within its range
 abbrev pub Valid : Frame → Type 0
 Valid (message t s ps) = ValidMessage t s ps
-Valid (tick t) = t < 2 ^ 32
+Valid (tick t) = t < 2 ^ timeWidth
 Valid (register t n k ps) = ValidQuery t n k ps
-Valid (unregister t n) = (t < 2 ^ 32) × (n < 2 ^ 5)
+Valid (unregister t n) = (t < 2 ^ timeWidth) × (n < numbers)

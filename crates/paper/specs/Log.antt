@@ -138,10 +138,14 @@ departures needed log c = cond (eqb (judge needed log c) 0) (departuresShape log
 
 -- ---- starting and reading
 
--- "Starting: 11, 12." N is 1 to 256 messages and T 1 to 65,535 seconds.
+-- whether N and T are within their ranges
+abbrev pub inRanges : ℕ → ℕ → Bool
+inRanges N T = ltb 0 N && leb N mostMessages && (ltb 0 T && leb T longestLife)
+
+-- "Starting: 11, 12."
 unfoldable pub judgeStart : ℕ → ℕ → ℕ → ℕ
 judgeStart N T state =
-    cond (ltb 0 N && leb N mostMessages && (ltb 0 T && leb T longestLife))
+    cond (inRanges N T)
     (cond (eqb state stateLength) 0 12)
     11
 

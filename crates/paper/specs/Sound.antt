@@ -6,7 +6,7 @@ use mathlib.Core.Bool.{false}
 use mathlib.Core.List.{List, [], _∷_}
 use mathlib.Core.Option.{Option, none, some}
 use lib.ListN.{length}
-use Rattle.paper.specs.Frame.{Pairs, countWidth, weightWidth, mostPairs, mostTerms, numbers}
+use Rattle.paper.specs.Frame.{Pairs, countWidth, weightWidth, mostPairs, mostTerms, numbers, timeWidth, serialWidth, mostListed}
 use Rattle.paper.specs.Window.{Message}
 use Rattle.paper.specs.Rank.{Query}
 use Rattle.paper.specs.Log.{Log, hasSerial, inForceNow}
@@ -29,11 +29,11 @@ Distinct (m ∷ l) = (hasSerial (m .serial) l ≡ false) × Distinct l
 -- every message's fields are within their ranges
 abbrev pub Messages : List Message → Type 0
 Messages [] = Unit {0}
-Messages (m ∷ l) = (m .serial < 2 ^ 20) × Pairs countWidth mostPairs (m .pairs) × Messages l
+Messages (m ∷ l) = (m .serial < 2 ^ serialWidth) × Pairs countWidth mostPairs (m .pairs) × Messages l
 
 pub record Terms (q : Query) : Type 0 where
   pub k-least : 1 ≤ q .k
-  pub k-most : q .k ≤ 2 ^ 4
+  pub k-most : q .k ≤ mostListed
   pub terms : Pairs weightWidth mostTerms (q .terms)
 
 abbrev pub Queries : List (Option Query) → Type 0
@@ -44,7 +44,7 @@ Queries (some q ∷ qs) = Terms q × Queries qs
 pub record Sound (log : Log) : Type 0 where
   pub N-least : 1 ≤ log .N
   pub T-least : 1 ≤ log .T
-  pub clock-below : log .clock < 2 ^ 32
+  pub clock-below : log .clock < 2 ^ timeWidth
   pub ordered : Chronological (log .clock) (log .messages)
   pub distinct : Distinct (inForceNow log)
   pub messages : Messages (log .messages)

@@ -6,7 +6,7 @@ use mathlib.Core.Bool.{Bool, true, cond, _&&_}
 use mathlib.Core.List.{List, [], _∷_, map}
 use lib.ListN.{length}
 use lib.Dec.{eqb, leb, ltb}
-use Rattle.paper.specs.Frame.{Pair, Frame, Shape, encode, rising, termWidth, countWidth, weightWidth, mostPairs, mostTerms}
+use Rattle.paper.specs.Frame.{Pair, Frame, Shape, encode, rising, termWidth, countWidth, weightWidth, mostPairs, mostTerms, timeWidth, serialWidth, numbers, mostListed}
 use Rattle.paper.specs.Frame.Frame.{message, tick, register, unregister}
 use Rattle.paper.specs.Frame.Shape.{refused, accepted}
 
@@ -45,10 +45,10 @@ pairsWithin w most f =
 
 -- whether every field of a message, of a registration, is within its range
 abbrev pub messageWithin : Fields → Bool
-messageWithin f = ltb (f .time) (2 ^ 32) && ltb (f .serial) (2 ^ 20) && pairsWithin countWidth mostPairs f
+messageWithin f = ltb (f .time) (2 ^ timeWidth) && ltb (f .serial) (2 ^ serialWidth) && pairsWithin countWidth mostPairs f
 
 abbrev pub registerWithin : Fields → Bool
-registerWithin f = ltb (f .time) (2 ^ 32) && ltb (f .number) (2 ^ 5) && within (2 ^ 4) (f .k) && pairsWithin weightWidth mostTerms f
+registerWithin f = ltb (f .time) (2 ^ timeWidth) && ltb (f .number) numbers && within mostListed (f .k) && pairsWithin weightWidth mostTerms f
 
 -- 5, then 6, or the frame
 abbrev pub judged : Bool → List Pair → Frame → Shape
@@ -63,11 +63,11 @@ fromFields f =
     cond (eqb (f .kind) 1)
     (judged (messageWithin f) (pairsOf f) (message (f .time) (f .serial) (pairsOf f)))
     (cond (eqb (f .kind) 2)
-    (judged (ltb (f .time) (2 ^ 32)) [] (tick (f .time)))
+    (judged (ltb (f .time) (2 ^ timeWidth)) [] (tick (f .time)))
     (cond (eqb (f .kind) 3)
     (judged (registerWithin f) (pairsOf f) (register (f .time) (f .number) (f .k) (pairsOf f)))
     (cond (eqb (f .kind) 4)
-    (judged (ltb (f .time) (2 ^ 32) && ltb (f .number) (2 ^ 5)) [] (unregister (f .time) (f .number)))
+    (judged (ltb (f .time) (2 ^ timeWidth) && ltb (f .number) numbers) [] (unregister (f .time) (f .number)))
     (refused 2))))
 
 -- the bytes to write, none where refused

@@ -21,7 +21,7 @@ pub const COUNT: usize = 4;
 
 pub const RING: usize = COUNT + 1;
 
-pub const SLOTS: usize = MOST_MESSAGES + 1;
+pub const SLOTS: usize = MOST_MESSAGES as usize + 1;
 
 pub const SERIAL: usize = 1;
 

@@ -14,6 +14,6 @@ pub const TERMS: usize = 1024;
 pub const NUMBERS: usize = 32;
 
 // The most messages in force, and the most seconds that one is.
-pub const MOST_MESSAGES: usize = 256;
+pub const MOST_MESSAGES: u32 = 256;
 
-pub const LONGEST_LIFE: usize = 65535;
+pub const LONGEST_LIFE: u32 = 65535;

@@ -5,19 +5,20 @@ use mathlib.Core.Bool.{Bool, true, false, cond, _&&_, _||_}
 use mathlib.Core.List.{List, [], _∷_, _++_, map}
 use lib.ListN.{length, getD, take, drop}
 use lib.Dec.{eqb, leb, ltb}
+use Rattle.paper.specs.Frame.{mostTerms, mostListed}
 use Rattle.paper.specs.Impact.{top}
 use Rattle.paper.specs.Rank.{lines, ranking}
 use Rattle.paper.specs.Rank as Rank
 use Rattle.paper.specs.Window.{Message}
 use Rattle.paper.specs.Order.{In}
 use Rattle.paper.specs.Threshold.{thresholdSum, lastScore, reached, termAt}
-use Rattle.paper.specs.Layout.{slots, recordAt, recordWords, thresholdsIn, serialsIn, scoresIn, flagsIn, listedIn}
+use Rattle.paper.specs.Layout.{slots, recordAt, recordWords, thresholdsIn, serialsIn, scoresIn, flagsIn, listedIn, flagWords}
 use Rattle.paper.specs.Sound.{Messages, Terms}
 use Rattle.memory.specs.Keeps.{Keeps}
 use Rattle.impact.specs.Cell.{RisingTerms}
 use Rattle.rank.specs.declared.Ranked.{Ranked}
 use Rattle.rank.specs.Listing.{linesOf, lastOf, Tidy}
-use Rattle.rank.specs.Weights.{weightedSum, Raised}
+use Rattle.rank.specs.Weights.{weightLimit, weightedSum, Raised}
 use Rattle.window.specs.Slot.{slot, stored, ring, window}
 use Rattle.window.specs.Terms.{inSet, termOf}
 use Rattle.candidates.specs.declared.Query.{Query}
@@ -36,11 +37,11 @@ pub record Clamped (least most v r : ℕ) : Type 0 where
 
 -- ranges that hold whatever memory says
 pub record InRange (r : Query) : Type 0 where
-  pub k-most : r .k ≤ 16
+  pub k-most : r .k ≤ mostListed
   pub n-least : 1 ≤ r .n
-  pub n-most : r .n ≤ 8
-  pub weights-least : (i : ℕ) → i < 8 → 1 ≤ getD (r .weights) i 0
-  pub weights-most : (i : ℕ) → i < 8 → getD (r .weights) i 0 < 16
+  pub n-most : r .n ≤ mostTerms
+  pub weights-least : (i : ℕ) → i < mostTerms → 1 ≤ getD (r .weights) i 0
+  pub weights-most : (i : ℕ) → i < mostTerms → getD (r .weights) i 0 < weightLimit
 
 -- the loaded query is this one
 pub record Is (r : Query) (query : Rank.Query) : Type 0 where
@@ -55,13 +56,13 @@ pub record LoadedQuery (w : List ℕ) (q : ℕ) (r : Query) : Type 0 where
 
 pub record LoadedThresholds (w : List ℕ) (q : ℕ) (r : List ℕ) : Type 0 where
   pub in-scale : (i : ℕ) → getD r i 0 ≤ top
-  pub is : ((i : ℕ) → i < 8 → getD w (thresholdsIn q + i) 0 ≤ top) → r ≡ take 8 (drop (thresholdsIn q) w)
+  pub is : ((i : ℕ) → i < mostTerms → getD w (thresholdsIn q + i) 0 ≤ top) → r ≡ take mostTerms (drop (thresholdsIn q) w)
 
 pub record LoadedList (w : List ℕ) (q : ℕ) (r : Ranked) : Type 0 where
-  pub count-most : r .count ≤ 16
-  pub count-is : getD w (listedIn q) 0 ≤ 16 → r .count ≡ getD w (listedIn q) 0
-  pub serials : r .serials ≡ take 16 (drop (serialsIn q) w)
-  pub scores : r .scores ≡ take 16 (drop (scoresIn q) w)
+  pub count-most : r .count ≤ mostListed
+  pub count-is : getD w (listedIn q) 0 ≤ mostListed → r .count ≡ getD w (listedIn q) 0
+  pub serials : r .serials ≡ take mostListed (drop (serialsIn q) w)
+  pub scores : r .scores ≡ take mostListed (drop (scoresIn q) w)
 
 -- ---- thresholds beside a list
 
@@ -87,10 +88,10 @@ secure r hs list = eqb (sumOf r hs) 0 || (leb (r .k) (list .count) && ltb (sumOf
 pub record StoredKept (q : ℕ) (hs : List ℕ) (list : Ranked) (fs : List ℕ) (w w′ : List ℕ) : Type 0 where
   pub keeps : Keeps (listedIn q) (recordAt q + recordWords) w w′
   pub count : getD w′ (listedIn q) 0 ≡ list .count
-  pub thresholds : take 8 (drop (thresholdsIn q) w′) ≡ hs
-  pub serials : take 16 (drop (serialsIn q) w′) ≡ list .serials
-  pub scores : take 16 (drop (scoresIn q) w′) ≡ list .scores
-  pub flags : take 9 (drop (flagsIn q) w′) ≡ fs
+  pub thresholds : take mostTerms (drop (thresholdsIn q) w′) ≡ hs
+  pub serials : take mostListed (drop (serialsIn q) w′) ≡ list .serials
+  pub scores : take mostListed (drop (scoresIn q) w′) ≡ list .scores
+  pub flags : take flagWords (drop (flagsIn q) w′) ≡ fs
 
 -- the window that a query is settled over: `count` slots from slot `first` on hold these messages
 pub record Over (w : List ℕ) (first count : ℕ) (ms : List Message) : Type 0 where
@@ -152,7 +153,7 @@ pub record NewestLow (w : List ℕ) (newest : ℕ) (r : Query) (bound : ℕ) (b 
 
 -- whether the list is full, and neither that one nor one of the d messages from slot o on scores as much as its last
 pub record Stands (w : List ℕ) (q o d newest : ℕ) (r : Query) (b : Bool) : Type 0 where
-  pub right : getD w (listedIn q) 0 ≤ 16 → AllRising (map (slot w) (arriving newest)) → AllRising (window w o d) → Rising r
+  pub right : getD w (listedIn q) 0 ≤ mostListed → AllRising (map (slot w) (arriving newest)) → AllRising (window w o d) → Rising r
       → b ≡ (eqb (length (list w q)) (r .k)
       && (lowSlots (termsOf r) (lastOf (list w q)) (map (slot w) (arriving newest)) && lowSlots (termsOf r) (lastOf (list w q)) (window w o d)))
 

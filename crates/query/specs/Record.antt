@@ -6,10 +6,12 @@ use mathlib.Core.Bool.{_&&_}
 use mathlib.Core.List.{List, map}
 use mathlib.Core.Option.{Option, none, some}
 use lib.ListN.{length, getD, take, drop}
+use Rattle.paper.specs.Frame.{mostTerms, mostListed}
 use Rattle.paper.specs.Rank.{Query, Line}
 use Rattle.paper.specs.Sort.{select}
 use Rattle.paper.specs.Window.{Message}
 use Rattle.paper.specs.Threshold.{Kept, Settled, termAt, weightAt}
+use Rattle.rank.specs.Weights.{weightLimit}
 use Rattle.rank.specs.Listing.{listed, ZeroFrom}
 use Rattle.paper.specs.Layout.{slots, flagWords, recordAt, recordWords, sizeIn, pairsIn, listedIn, thresholdsIn, serialsIn, scoresIn, flagsIn}
 use Rattle.window.specs.Slot.{slot, ring}
@@ -22,10 +24,10 @@ unfoldable pub thresholds : List ℕ → ℕ → ℕ → List ℕ
 thresholds w q n = take n (drop (thresholdsIn q) w)
 
 unfoldable pub flags : List ℕ → ℕ → List ℕ
-flags w q = take 9 (drop (flagsIn q) w)
+flags w q = take flagWords (drop (flagsIn q) w)
 
 unfoldable pub list : List ℕ → ℕ → List Line
-list w q = listed (getD w (listedIn q) 0) (take 16 (drop (serialsIn q) w)) (take 16 (drop (scoresIn q) w))
+list w q = listed (getD w (listedIn q) 0) (take mostListed (drop (serialsIn q) w)) (take mostListed (drop (scoresIn q) w))
 
 -- the candidates by serial, in the order of acceptance: the flagged slots of the window, which is n slots from slot o on
 unfoldable pub candidates : List ℕ → ℕ → ℕ → ℕ → List ℕ
@@ -41,7 +43,7 @@ keptOf w q o n m = record { thresholds = thresholds w q m; candidates = candidat
 pub record Says (w : List ℕ) (q : ℕ) (query : Query) : Type 0 where
   pub k : getD w (recordAt q) 0 ≡ query .k
   pub size : getD w (sizeIn q) 0 ≡ length (query .terms)
-  pub pairs : (i : ℕ) → i < length (query .terms) → getD w (pairsIn q + i) 0 ≡ termAt (query .terms) i * 16 + weightAt (query .terms) i
+  pub pairs : (i : ℕ) → i < length (query .terms) → getD w (pairsIn q + i) 0 ≡ termAt (query .terms) i * weightLimit + weightAt (query .terms) i
 
 -- it says this query, and what is kept is right for the messages in the window; the places it doesn't use are 0
 pub record Holds (w : List ℕ) (q o n : ℕ) (ms : List Message) (query : Query) : Type 0 where
@@ -49,10 +51,10 @@ pub record Holds (w : List ℕ) (q o n : ℕ) (ms : List Message) (query : Query
   pub settled : Settled query ms (keptOf w q o n (length (query .terms)))
   pub flagged : (j : ℕ) → j < slots
       → flagOf (flags w q) j ≡ (inRing o n j && exceedsCells (query .terms) (thresholds w q (length (query .terms))) (slot w j .cells))
-  pub no-threshold : (i : ℕ) → length (query .terms) ≤ i → i < 8 → getD w (thresholdsIn q + i) 0 ≡ 0
-  pub listed-most : getD w (listedIn q) 0 ≤ 16
-  pub no-serial : ZeroFrom (getD w (listedIn q) 0) (take 16 (drop (serialsIn q) w))
-  pub no-score : ZeroFrom (getD w (listedIn q) 0) (take 16 (drop (scoresIn q) w))
+  pub no-threshold : (i : ℕ) → length (query .terms) ≤ i → i < mostTerms → getD w (thresholdsIn q + i) 0 ≡ 0
+  pub listed-most : getD w (listedIn q) 0 ≤ mostListed
+  pub no-serial : ZeroFrom (getD w (listedIn q) 0) (take mostListed (drop (serialsIn q) w))
+  pub no-score : ZeroFrom (getD w (listedIn q) 0) (take mostListed (drop (scoresIn q) w))
 
 -- a number not in use has a record of zeros
 abbrev pub HoldsAt : List ℕ → ℕ → ℕ → ℕ → List Message → Option Query → Type 0

@@ -4,18 +4,30 @@ ghost use Prim.Native.Nat.{ℕ, _+_, _*_, _%_, _<_, _≤_};
 ghost use mathlib.Core.Bool.{Bool, not};
 ghost use lib.ListN.{length, getD, take, drop};
 ghost use lib.Dec.{eqb};
-ghost use Rattle.paper.specs.Frame.{numbers};
+ghost use Rattle.paper.specs.Frame.{numbers, mostTerms, mostListed};
 ghost use Rattle.paper.specs.Impact.{top};
 ghost use Rattle.paper.specs.Write.{side-by-side};
 ghost use Rattle.paper.specs.Layout.{stateLength, slots, recordAt};
 ghost use Rattle.memory.specs.Words.{words};
 ghost use Rattle.window.specs.Terms.{termLimit};
 ghost use Rattle.rank.specs.Listing.{linesOf};
+ghost use Rattle.rank.specs.Weights.{weightLimit};
 ghost use Rattle.query.specs.Record.{Says};
 ghost use Rattle.query.specs.Post.{Clamped, InRange, LoadedQuery, LoadedThresholds, LoadedList, Lifted, secure, StoredKept, Finished, Refilled, SettledFrom, Arriving, Reached, Arrived, NewestLow, Stands, KeptList, Covers, Shares, Updated, PutQuery, Registered, Cleared};
 use candidates::Query;
 use paper::layout;
 use rank::Ranked;
+
+// What the words of a record are clamped to: k, the number of terms, a term, and a weight, which shares a word with its term.
+const MOST_LISTED: u32 = paper::MOST_LISTED as u32;
+
+const MOST_TERMS: u32 = paper::MOST_TERMS as u32;
+
+const TERMS: u32 = paper::TERMS as u32;
+
+const WEIGHT_LIMIT: u32 = 16;
+
+const MOST_WEIGHT: u32 = WEIGHT_LIMIT - 1;
 
 // Whether the number is in use: a record that isn't is all zero.
 pub fn in_use(state: &[u8], q: usize) -> bool
@@ -46,15 +58,15 @@ pub fn load_query(state: &[u8], q: usize) -> Query
     let mut terms = [0u32; 8];
     let mut weights = [0u32; 8];
     let mut i: usize = 0;
-    while i < 8 {
+    while i < paper::MOST_TERMS {
         let pair = pairs[i];
-        terms[i] = pair / 16;
-        weights[i] = clamped(pair % 16, 1, 15);
+        terms[i] = pair / WEIGHT_LIMIT;
+        weights[i] = clamped(pair % WEIGHT_LIMIT, 1, MOST_WEIGHT);
         i += 1;
     }
     Query {
-        k: clamped(memory::get(state, at), 0, 16) as usize,
-        n: clamped(memory::get(state, at + layout::SIZE), 1, 8) as usize,
+        k: clamped(memory::get(state, at), 0, MOST_LISTED) as usize,
+        n: clamped(memory::get(state, at + layout::SIZE), 1, MOST_TERMS) as usize,
         terms,
         weights,
     }
@@ -71,7 +83,7 @@ fn load_thresholds(state: &[u8], q: usize) -> [u32; 8]
     );
     let mut thresholds = [0u32; 8];
     let mut i: usize = 0;
-    while i < 8 {
+    while i < paper::MOST_TERMS {
         thresholds[i] = clamped(words[i], 0, impact::Impact::TOP);
         i += 1;
     }
@@ -89,14 +101,14 @@ pub fn load_list(state: &[u8], q: usize) -> Ranked
     Ranked {
         serials,
         scores,
-        count: clamped(memory::get(state, at + layout::LISTED), 0, 16) as usize,
+        count: clamped(memory::get(state, at + layout::LISTED), 0, MOST_LISTED) as usize,
     }
 }
 
 // What is kept of a query is written.
 fn store(state: &mut [u8], q: usize, thresholds: [u32; 8], list: Ranked, flags: [u32; 9])
     requires { ⌜ (length (now state) ≡ stateLength) × (q < numbers) ⌝ }
-    requires { ⌜ list .count ≤ 16 ⌝ }
+    requires { ⌜ list .count ≤ mostListed ⌝ }
     ensures { λ _. ⌜ StoredKept q thresholds list flags (words (now (state .entry))) (words (now (state .exit))) ⌝ }
 {
     let at = layout::RECORDS + layout::RECORD * q;
@@ -113,7 +125,7 @@ fn store(state: &mut [u8], q: usize, thresholds: [u32; 8], list: Ranked, flags: 
 // The thresholds raised where the list is full and they leave room below its last score, else none.
 fn raised(query: Query, thresholds: [u32; 8], list: Ranked) -> [u32; 8]
     requires { ⌜ InRange query ⌝ }
-    requires { ⌜ (list .count ≤ 16) × ((i : ℕ) → getD thresholds i 0 ≤ top) ⌝ }
+    requires { ⌜ (list .count ≤ mostListed) × ((i : ℕ) → getD thresholds i 0 ≤ top) ⌝ }
     ensures { λ r. ⌜ Lifted query thresholds list r ⌝ }
 {
     let n = query.n;
@@ -141,7 +153,7 @@ fn finish(
 )
     requires { ⌜ (length (now state) ≡ stateLength) × (q < numbers) × (first < slots) × (count < slots) ⌝ }
     requires { ⌜ InRange query ⌝ }
-    requires { ⌜ (list .count ≤ 16) × ((i : ℕ) → getD thresholds i 0 ≤ top) ⌝ }
+    requires { ⌜ (list .count ≤ mostListed) × ((i : ℕ) → getD thresholds i 0 ≤ top) ⌝ }
     ensures { λ _. ⌜ Finished (words (now (state .entry))) q first count flags query thresholds list (words (now (state .exit))) ⌝ }
 {
     let next = raised(query, thresholds, list);
@@ -152,7 +164,7 @@ fn finish(
 // Whether no message that isn't among those ranked could be listed: a message that exceeds no threshold scores at most their sum.
 fn is_safe(query: Query, thresholds: [u32; 8], list: Ranked) -> bool
     requires { ⌜ InRange query ⌝ }
-    requires { ⌜ (list .count ≤ 16) × ((i : ℕ) → getD thresholds i 0 ≤ top) ⌝ }
+    requires { ⌜ (list .count ≤ mostListed) × ((i : ℕ) → getD thresholds i 0 ≤ top) ⌝ }
     ensures { λ r. ⌜ r ≡ secure query thresholds list ⌝ }
 {
     let weights = query.weights;
@@ -202,7 +214,7 @@ fn settle(
 
 // Whether the message in slot `newest`, where that is one, exceeds one of the thresholds.
 fn newest_exceeds(state: &[u8], newest: usize, query: Query, thresholds: [u32; 8]) -> bool
-    requires { ⌜ (length (now state) ≡ stateLength) × (query .n ≤ 8) ⌝ }
+    requires { ⌜ (length (now state) ≡ stateLength) × (query .n ≤ mostTerms) ⌝ }
     ensures { λ r. ⌜ Arriving (words (now (state .entry))) newest query thresholds r ⌝ }
 {
     if newest < layout::SLOTS {
@@ -220,7 +232,7 @@ fn is_reached(
     query: Query,
     thresholds: [u32; 8],
 ) -> bool
-    requires { ⌜ (length (now state) ≡ stateLength) × (gone < slots) × (query .n ≤ 8) ⌝ }
+    requires { ⌜ (length (now state) ≡ stateLength) × (gone < slots) × (query .n ≤ mostTerms) ⌝ }
     ensures { λ r. ⌜ Reached (words (now (state .entry))) gone departed above query thresholds r ⌝ }
 {
     if above {
@@ -312,10 +324,10 @@ fn shares(state: &[u8], q: usize, set: &[bool]) -> bool
     ensures { λ r. ⌜ Shares (words (now (state .entry))) q (now (set .entry)) r ⌝ }
 {
     let at = layout::RECORDS + layout::RECORD * q;
-    let n = clamped(memory::get(state, at + layout::SIZE), 1, 8) as usize;
+    let n = clamped(memory::get(state, at + layout::SIZE), 1, MOST_TERMS) as usize;
     let mut i: usize = 0;
     while i < n {
-        let term = (memory::get(state, at + layout::PAIRS + i) / 16 % 1024) as usize;
+        let term = (memory::get(state, at + layout::PAIRS + i) / WEIGHT_LIMIT % TERMS) as usize;
         if set[term] {
             return true;
         }
@@ -373,8 +385,8 @@ pub fn clear(state: &mut [u8], q: usize)
 
 // A query is written: the length of its list, how many terms it has, and each with its weight.
 fn put_query(state: &mut [u8], q: usize, k: u32, n: usize, terms: [u32; 16], weights: [u32; 16])
-    requires { ⌜ (length (now state) ≡ stateLength) × (q < numbers) × (n ≤ 8) ⌝ }
-    requires { ⌜ ((i : ℕ) → i < n → (getD terms i 0 < 1024) × (getD weights i 0 < 16)) ⌝ }
+    requires { ⌜ (length (now state) ≡ stateLength) × (q < numbers) × (n ≤ mostTerms) ⌝ }
+    requires { ⌜ ((i : ℕ) → i < n → (getD terms i 0 < termLimit) × (getD weights i 0 < weightLimit)) ⌝ }
     ensures { λ _. ⌜ PutQuery q (record { k = k; terms = side-by-side n terms weights }) (words (now (state .entry))) (words (now (state .exit))) ⌝ }
 {
     let at = layout::RECORDS + layout::RECORD * q;
@@ -382,7 +394,7 @@ fn put_query(state: &mut [u8], q: usize, k: u32, n: usize, terms: [u32; 16], wei
     memory::put(state, at + layout::SIZE, n as u32);
     let mut i: usize = 0;
     while i < n {
-        let pair = terms[i] * 16 + weights[i];
+        let pair = terms[i] * WEIGHT_LIMIT + weights[i];
         memory::put(state, at + layout::PAIRS + i, pair);
         i += 1;
     }
@@ -400,8 +412,8 @@ pub fn register(
     count: usize,
 )
     requires { ⌜ (length (now state) ≡ stateLength) × (q < numbers) × (first < slots) × (count < slots) ⌝ }
-    requires { ⌜ (1 ≤ k) × (k ≤ 16) × (1 ≤ n) × (n ≤ 8) ⌝ }
-    requires { ⌜ ((i : ℕ) → i < n → (getD terms i 0 < 1024) × (getD weights i 0 < 16)) ⌝ }
+    requires { ⌜ (1 ≤ k) × (k ≤ mostListed) × (1 ≤ n) × (n ≤ mostTerms) ⌝ }
+    requires { ⌜ ((i : ℕ) → i < n → (getD terms i 0 < termLimit) × (getD weights i 0 < weightLimit)) ⌝ }
     ensures { λ _. ⌜ Registered (words (now (state .entry))) q first count (record { k = k; terms = side-by-side n terms weights }) (words (now (state .exit))) ⌝ }
 {
     put_query(state, q, k, n, terms, weights);

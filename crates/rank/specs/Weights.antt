@@ -1,19 +1,21 @@
 -- Sums over a query's weights, thresholds above which an impact lies, and thresholds raised until tight: paper's definitions without the terms.
 -- Assumes nothing.
-use Prim.Native.Nat.{ℕ, zero, suc, _+_, _*_, _≤_, _<_}
+use Prim.Native.Nat.{ℕ, zero, suc, _+_, _*_, _^_, _≤_, _<_}
 use mathlib.Core.Path.{_≡_}
 use mathlib.Core.Bool.{Bool, false, _||_}
 use mathlib.Core.List.{List, [], _∷_}
 use lib.ListN.{getD}
 use lib.Dec.{ltb}
+use Rattle.paper.specs.Frame.{weightWidth, mostTerms}
 use Rattle.paper.specs.Impact.{top}
+use Rattle.impact.specs.Cell.{impactWidth}
 
 -- weights have four bits, and stored impacts and thresholds fourteen
 abbrev pub weightLimit : ℕ
-weightLimit = 16
+weightLimit = 2 ^ weightWidth
 
 abbrev pub valueLimit : ℕ
-valueLimit = 16384
+valueLimit = 2 ^ impactWidth
 
 -- the first n places are below a limit
 abbrev pub Below : ℕ → ℕ → List ℕ → Type 0
@@ -46,7 +48,7 @@ TightTo m n ws kth hs = (i : ℕ) → i < m → getD hs i 0 < top → kth ≤ we
 -- what raising starts from: n places, no weight 0, thresholds within the scale, and their sum below the k-th score
 pub record Slack (n : ℕ) (ws hs : List ℕ) (kth : ℕ) : Type 0 where
   pub some : 1 ≤ n
-  pub most : n ≤ 8
+  pub most : n ≤ mostTerms
   pub weights : Below n weightLimit ws
   pub positive : (i : ℕ) → i < n → 1 ≤ getD ws i 0
   pub in-scale : InScale n hs

@@ -39,7 +39,7 @@ fn print_list(q: u32, list: Ranked) {
     space();
     io::print_decimal(STDOUT_FILENO, count as u64);
     let mut i: usize = 0;
-    while i < 16 {
+    while i < paper::MOST_LISTED {
         if i < count {
             space();
             number(serials[i]);

@@ -1,3 +1,4 @@
+pub mod HeaderLaws
 pub mod RingLaws
 pub mod SlotLaws
 pub mod TermLaws

@@ -11,7 +11,7 @@ use Rattle.paper.specs.Frame.{mostPairs}
 use Rattle.paper.specs.Impact.{impact, squares}
 use Rattle.paper.specs.Window.{Message}
 use Rattle.paper.specs.Write.{side-by-side}
-use Rattle.paper.specs.Layout.{stateLength, slots, slotWords, slotAt, cellsAt, recordAt}
+use Rattle.paper.specs.Layout.{slots, serialOffset, cellCountOffset, slotWords, slotAt, cellsAt, recordAt, stateLength}
 use Rattle.memory.specs.Words.{words, putWord}
 use Rattle.memory.specs.Keeps.{Keeps, Stored}
 use Rattle.memory.proofs.WordLaws.{words-length, put-word, put-length}
@@ -28,11 +28,11 @@ use Rattle.window.proofs.RingLaws.{ring-length, ring-below}
 pub slot-kept : {a e : ℕ} {w w′ : List ℕ} → Keeps a e w w′ → (j : ℕ) → (slotAt j + slotWords ≤ a) ⊎ (e ≤ slotAt j) → slot w′ j ≡ slot w j
 unfolding slot
 slot-kept {a} {e} {w} {w′} kept j d =
-    let most : sizeAt w j ≤ mostPairs = min-le-right (getD w (slotAt j + 2) 0) mostPairs in
+    let most : sizeAt w j ≤ mostPairs = min-le-right (getD w (slotAt j + cellCountOffset) 0) mostPairs in
     rw (
       word (slotAt j) (omega arith) (omega arith),
-      word (slotAt j + 1) (omega arith) (omega arith),
-      word (slotAt j + 2) (omega arith) (omega arith),
+      word (slotAt j + serialOffset) (omega arith) (omega arith),
+      word (slotAt j + cellCountOffset) (omega arith) (omega arith),
       keeps-part kept (cellsAt j) (sizeAt w j) (⊎-elim (λ b. inl (omega arith)) (λ b. inr (omega arith)) d),
     )
   where
@@ -82,13 +82,13 @@ module _ (m : ℕ) (ts fs : List ℕ) (ht : m ≤ length ts) (hf : m ≤ length 
 
 -- in words: time, serial and number of cells, then the cells
 slot-written : (j : ℕ) (x : Message) (m : ℕ) (w w′ : List ℕ) → slotAt j + slotWords ≤ length w → m ≤ mostPairs
-    → Stored (cellsAt j) m (cellsOf (x .pairs)) (set (set (set w (slotAt j) (x .time)) (slotAt j + 1) (x .serial)) (slotAt j + 2) m) w′ → Written j x w w′
+    → Stored (cellsAt j) m (cellsOf (x .pairs)) (set (set (set w (slotAt j) (x .time)) (slotAt j + serialOffset) (x .serial)) (slotAt j + cellCountOffset) m) w′ → Written j x w w′
 unfolding slot stored
 slot-written j x m w w′ long few cells = record {
   keeps =
       keeps-trans (one w (slotAt j) (x .time) (omega arith) (omega arith))
-      (keeps-trans (one w₁ (slotAt j + 1) (x .serial) (omega arith) (omega arith))
-      (keeps-trans (one w₂ (slotAt j + 2) m (omega arith) (omega arith)) (keeps-wider (omega arith) (omega arith) (cells .keeps))));
+      (keeps-trans (one w₁ (slotAt j + serialOffset) (x .serial) (omega arith) (omega arith))
+      (keeps-trans (one w₂ (slotAt j + cellCountOffset) m (omega arith) (omega arith)) (keeps-wider (omega arith) (omega arith) (cells .keeps))));
   holds = rw (time-is, serial-is, size-is, min-eq-left few, cells .reads);
 }
   where
@@ -96,10 +96,10 @@ slot-written j x m w w′ long few cells = record {
     w₁ = set w (slotAt j) (x .time)
 
     w₂ : List ℕ
-    w₂ = set w₁ (slotAt j + 1) (x .serial)
+    w₂ = set w₁ (slotAt j + serialOffset) (x .serial)
 
     w₃ : List ℕ
-    w₃ = set w₂ (slotAt j + 2) m
+    w₃ = set w₂ (slotAt j + cellCountOffset) m
 
     one : (v : List ℕ) (i y : ℕ) → slotAt j ≤ i → i < slotAt j + slotWords → Keeps (slotAt j) (slotAt j + slotWords) v (set v i y)
     one v i y l h = keeps-wider l h (keeps-set v i y)
@@ -110,35 +110,35 @@ slot-written j x m w w′ long few cells = record {
     time-is : getD w′ (slotAt j) 0 ≡ x .time
     time-is =
         before (slotAt j) (omega arith)
-        ∙ getD-set-other w₂ (slotAt j + 2) (slotAt j) m 0 (omega arith)
-        ∙ getD-set-other w₁ (slotAt j + 1) (slotAt j) (x .serial) 0 (omega arith)
+        ∙ getD-set-other w₂ (slotAt j + cellCountOffset) (slotAt j) m 0 (omega arith)
+        ∙ getD-set-other w₁ (slotAt j + serialOffset) (slotAt j) (x .serial) 0 (omega arith)
         ∙ getD-set-same w (slotAt j) (x .time) 0 (omega arith)
 
-    serial-is : getD w′ (slotAt j + 1) 0 ≡ x .serial
+    serial-is : getD w′ (slotAt j + serialOffset) 0 ≡ x .serial
     serial-is =
-        before (slotAt j + 1) (omega arith)
-        ∙ getD-set-other w₂ (slotAt j + 2) (slotAt j + 1) m 0 (omega arith)
-        ∙ getD-set-same w₁ (slotAt j + 1) (x .serial) 0 (let l = length-set w (slotAt j) (x .time) in omega arith)
+        before (slotAt j + serialOffset) (omega arith)
+        ∙ getD-set-other w₂ (slotAt j + cellCountOffset) (slotAt j + serialOffset) m 0 (omega arith)
+        ∙ getD-set-same w₁ (slotAt j + serialOffset) (x .serial) 0 (let l = length-set w (slotAt j) (x .time) in omega arith)
 
-    size-is : getD w′ (slotAt j + 2) 0 ≡ m
+    size-is : getD w′ (slotAt j + cellCountOffset) 0 ≡ m
     size-is =
-        before (slotAt j + 2) (omega arith)
-        ∙ getD-set-same w₂ (slotAt j + 2) m 0 (let l = length-set w (slotAt j) (x .time) in let k = length-set w₁ (slotAt j + 1) (x .serial) in omega arith)
+        before (slotAt j + cellCountOffset) (omega arith)
+        ∙ getD-set-same w₂ (slotAt j + cellCountOffset) m 0 (let l = length-set w (slotAt j) (x .time) in let k = length-set w₁ (slotAt j + serialOffset) (x .serial) in omega arith)
 
 -- as the words are put one after the other
 pub message-written : (j : ℕ) (x : Message) (m : ℕ) (s₀ s₁ s₂ s₃ : List ℕ) {w′ : List ℕ} → length s₀ ≡ stateLength → j < slots → m ≤ mostPairs
-    → x .time < 2 ^ 32 → x .serial < 2 ^ 32 → s₁ ≡ putWord s₀ (slotAt j) (x .time) → s₂ ≡ putWord s₁ (slotAt j + 1) (x .serial)
-    → s₃ ≡ putWord s₂ (slotAt j + 2) m → Stored (cellsAt j) m (cellsOf (x .pairs)) (words s₃) w′ → Written j x (words s₀) w′
+    → x .time < 2 ^ 32 → x .serial < 2 ^ 32 → s₁ ≡ putWord s₀ (slotAt j) (x .time) → s₂ ≡ putWord s₁ (slotAt j + serialOffset) (x .serial)
+    → s₃ ≡ putWord s₂ (slotAt j + cellCountOffset) m → Stored (cellsAt j) m (cellsOf (x .pairs)) (words s₃) w′ → Written j x (words s₀) w′
 message-written j x m s₀ s₁ s₂ s₃ {w′} long low few ht hs e₁ e₂ e₃ cells =
     let l₁ : length s₁ ≡ length s₀ = ap length e₁ ∙ put-length s₀ (slotAt j) (x .time) in
-    let l₂ : length s₂ ≡ length s₁ = ap length e₂ ∙ put-length s₁ (slotAt j + 1) (x .serial) in
+    let l₂ : length s₂ ≡ length s₁ = ap length e₂ ∙ put-length s₁ (slotAt j + serialOffset) (x .serial) in
     let l = words-length s₀ in
     slot-written j x m (words s₀) w′ (omega arith) few
     (rw (
       e₃,
-      put-word s₂ (slotAt j + 2) m (omega arith) (omega arith),
+      put-word s₂ (slotAt j + cellCountOffset) m (omega arith) (omega arith),
       e₂,
-      put-word s₁ (slotAt j + 1) (x .serial) (omega arith) hs,
+      put-word s₁ (slotAt j + serialOffset) (x .serial) (omega arith) hs,
       e₁,
       put-word s₀ (slotAt j) (x .time) (omega arith) ht,
     ) at cells)

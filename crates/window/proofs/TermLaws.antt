@@ -11,7 +11,7 @@ use lib.Dec.{eqb}
 use borrow.Author.Count.{below-more}
 use borrow.Author.Tests.{eqb-true, eqb-false}
 use Rattle.paper.specs.Frame.{mostPairs}
-use Rattle.paper.specs.Layout.{stateLength, slots, slotAt, cellsAt}
+use Rattle.paper.specs.Layout.{slots, cellCountOffset, slotAt, cellsAt, stateLength}
 use Rattle.memory.specs.Words.{words}
 use Rattle.impact.proofs.Merge.{cells-length, cell-at}
 use Rattle.window.specs.Slot.{slot, sizeAt}
@@ -19,7 +19,7 @@ use Rattle.window.specs.Terms.{inSet}
 
 module _ (s : List ℕ) (j : ℕ) (long : length s ≡ stateLength) (below : j < slots) where
   pub size-most : sizeAt (words s) j ≤ mostPairs
-  size-most = min-le-right (getD (words s) (slotAt j + 2) 0) mostPairs
+  size-most = min-le-right (getD (words s) (slotAt j + cellCountOffset) 0) mostPairs
 
   pub slot-size : length (slot (words s) j .cells) ≡ sizeAt (words s) j
   unfolding slot

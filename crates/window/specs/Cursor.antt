@@ -4,7 +4,7 @@ use mathlib.Core.Path.{_≡_}
 use mathlib.Core.List.{List}
 use lib.ListN.{getD}
 use Rattle.paper.specs.Window.{Message}
-use Rattle.paper.specs.Layout.{slots, slotWords, slotAt, clockAt, oldestAt, countAt}
+use Rattle.paper.specs.Layout.{clockAt, oldestAt, countAt, headerWords, slots, slotWords, slotAt}
 use Rattle.memory.specs.Keeps.{Keeps}
 use Rattle.window.specs.Slot.{slot, stored, window, dropPast}
 
@@ -15,6 +15,13 @@ pub record Loaded (w : List ℕ) (clock oldest count : ℕ) : Type 0 where
   pub oldest-is : getD w oldestAt 0 < slots → oldest ≡ getD w oldestAt 0
   pub count-below : count < slots
   pub count-is : getD w countAt 0 < slots → count ≡ getD w countAt 0
+
+-- the header's clock, oldest slot and count are written, and nothing else
+pub record PutCursor (clock oldest count : ℕ) (w w′ : List ℕ) : Type 0 where
+  pub keeps : Keeps clockAt headerWords w w′
+  pub clock-is : getD w′ clockAt 0 ≡ clock
+  pub oldest-is : getD w′ oldestAt 0 ≡ oldest
+  pub count-is : getD w′ countAt 0 ≡ count
 
 -- a window whose oldest slots left: it starts as many slots later as it is shorter
 pub record Moved (o n o′ n′ : ℕ) : Type 0 where

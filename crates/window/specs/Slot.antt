@@ -6,7 +6,7 @@ use lib.ListN.{getD, take, drop}
 use lib.Dec.{eqb}
 use Rattle.paper.specs.Frame.{mostPairs}
 use Rattle.paper.specs.Window.{Message, past}
-use Rattle.paper.specs.Layout.{slots, slotAt, cellsAt}
+use Rattle.paper.specs.Layout.{slots, serialOffset, cellCountOffset, slotAt, cellsAt}
 use Rattle.impact.specs.Cell.{cellsOf}
 
 pub record Slot : Type 0 where
@@ -14,15 +14,15 @@ pub record Slot : Type 0 where
   pub serial : ℕ
   pub cells : List ℕ
 
--- how many cells a slot has, at most sixteen whatever memory says
+-- how many cells a slot has, at most as many as it has room for whatever memory says
 abbrev pub sizeAt : List ℕ → ℕ → ℕ
-sizeAt w j = min (getD w (slotAt j + 2) 0) mostPairs
+sizeAt w j = min (getD w (slotAt j + cellCountOffset) 0) mostPairs
 
 unfoldable pub slot : List ℕ → ℕ → Slot
 slot w j =
     record {
       time = getD w (slotAt j) 0;
-      serial = getD w (slotAt j + 1) 0;
+      serial = getD w (slotAt j + serialOffset) 0;
       cells = take (sizeAt w j) (drop (cellsAt j) w);
     }
 

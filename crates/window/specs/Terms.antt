@@ -1,14 +1,15 @@
 -- A set of terms, one place for each, beside a message's cells. Assumes nothing.
-use Prim.Native.Nat.{ℕ, _<_}
+use Prim.Native.Nat.{ℕ, _^_, _<_}
 use mathlib.Core.Path.{_≡_}
 use mathlib.Core.Bool.{Bool, true, false}
 use mathlib.Core.List.{List}
 use lib.ListN.{length, getD}
+use Rattle.paper.specs.Frame.{termWidth}
 use Rattle.impact.specs.Cell.{cellTerm}
 
 -- how many terms there are
 abbrev pub termLimit : ℕ
-termLimit = 1024
+termLimit = 2 ^ termWidth
 
 -- whether a term is in the set
 abbrev pub inSet : List Bool → ℕ → Bool

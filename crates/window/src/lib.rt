@@ -1,7 +1,8 @@
 // The window: a ring of message slots in the state memory, and the cursor that says which of them are in force.
 ghost use mathlib.Core.Path.{_≡_};
-ghost use Prim.Native.Nat.{ℕ, _+_, _*_, _%_, _<_, _≤_};
+ghost use Prim.Native.Nat.{ℕ, _+_, _*_, _%_, _^_, _<_, _≤_};
 ghost use lib.ListN.{length, getD};
+ghost use Rattle.paper.specs.Frame.{termWidth, countWidth, mostPairs, mostTerms};
 ghost use Rattle.paper.specs.Window.{past};
 ghost use Rattle.paper.specs.Write.{side-by-side};
 ghost use Rattle.paper.specs.Layout.{slots, stateWords, stateLength};
@@ -10,8 +11,9 @@ ghost use Rattle.memory.specs.Keeps.{Stored};
 ghost use Rattle.impact.specs.Cell.{cellsOf, Looked};
 ghost use Rattle.window.specs.Slot.{slot, sizeAt, window, next, holdsSerial};
 ghost use Rattle.window.specs.Terms.{termLimit, HasAny, Added};
-ghost use Rattle.window.specs.Cursor.{Loaded, Advanced, Roomy, Written};
+ghost use Rattle.window.specs.Cursor.{Loaded, PutCursor, Advanced, Roomy, Written};
 use impact::Impact;
+use paper::MOST_PAIRS;
 use paper::layout;
 
 // Whether an arrival at `time` is past at the clock.
@@ -49,18 +51,18 @@ pub fn serial_in(state: &[u8], j: usize) -> u32
     memory::get(state, layout::RING + layout::SLOT * j + layout::SERIAL)
 }
 
-// How many cells the message in slot j has, at most sixteen whatever memory holds.
+// How many cells the message in slot j has, at most as many as a slot has room for whatever memory holds.
 fn size_in(state: &[u8], j: usize) -> usize
     requires { ⌜ (length (now state) ≡ stateLength) × (j < slots) ⌝ }
     ensures { λ r. ⌜ r ≡ sizeAt (words (now (state .entry))) j ⌝ }
 {
     let size = memory::get(state, layout::RING + layout::SLOT * j + layout::CELL_COUNT) as usize;
-    if size < 16 { size } else { 16 }
+    if size < MOST_PAIRS { size } else { MOST_PAIRS }
 }
 
 // The impacts of the message in slot j in the first n terms of a query.
 pub fn impacts_in(state: &[u8], j: usize, terms: [u32; 8], n: usize) -> [u32; 8]
-    requires { ⌜ (length (now state) ≡ stateLength) × (j < slots) × (n ≤ 8) ⌝ }
+    requires { ⌜ (length (now state) ≡ stateLength) × (j < slots) × (n ≤ mostTerms) ⌝ }
     ensures { λ r. ⌜ Looked (slot (words (now (state .entry))) j .cells) terms n r ⌝ }
 {
     let size = size_in(state, j);
@@ -82,7 +84,7 @@ pub fn has_any(state: &[u8], j: usize, set: &[bool]) -> bool
     let size = size_in(state, j);
     let mut i: usize = 0;
     while i < size {
-        let term = (memory::get(state, at + i) / 4194304) as usize;
+        let term = (memory::get(state, at + i) / impact::TERM_FACTOR) as usize;
         if set[term] {
             return true;
         }
@@ -100,7 +102,7 @@ pub fn add_terms(state: &[u8], j: usize, set: &mut [bool])
     let size = size_in(state, j);
     let mut i: usize = 0;
     while i < size {
-        let term = (memory::get(state, at + i) / 4194304) as usize;
+        let term = (memory::get(state, at + i) / impact::TERM_FACTOR) as usize;
         set[term] = true;
         i += 1;
     }
@@ -164,6 +166,17 @@ impl Cursor {
     }
 }
 
+// The header says this cursor.
+pub fn put_cursor(state: &mut [u8], clock: u32, oldest: usize, count: usize)
+    requires { ⌜ length (now state) ≡ stateLength ⌝ }
+    requires { ⌜ (oldest < slots) × (count < slots) ⌝ }
+    ensures { λ _. ⌜ PutCursor clock oldest count (words (now (state .entry))) (words (now (state .exit))) ⌝ }
+{
+    memory::put(state, layout::CLOCK, clock);
+    memory::put(state, layout::OLDEST, oldest as u32);
+    memory::put(state, layout::COUNT, count as u32);
+}
+
 // Whether one of the `count` messages from slot `first` on has the serial.
 pub fn has_serial(state: &[u8], first: usize, count: usize, serial: u32) -> bool
     requires { ⌜ (length (now state) ≡ stateLength) × (first < slots) ⌝ }
@@ -182,9 +195,15 @@ pub fn has_serial(state: &[u8], first: usize, count: usize, serial: u32) -> bool
 }
 
 // The message's cells, from word `at` on.
-fn put_cells(state: &mut [u8], at: usize, m: usize, terms: [u32; 16], counts: [u32; 16])
-    requires { ⌜ (length (now state) ≡ stateLength) × (at + m ≤ stateWords) × (m ≤ 16) ⌝ }
-    requires { ⌜ ((i : ℕ) → i < m → (getD terms i 0 < 1024) × (getD counts i 0 < 256)) ⌝ }
+fn put_cells(
+    state: &mut [u8],
+    at: usize,
+    m: usize,
+    terms: [u32; MOST_PAIRS],
+    counts: [u32; MOST_PAIRS],
+)
+    requires { ⌜ (length (now state) ≡ stateLength) × (at + m ≤ stateWords) × (m ≤ mostPairs) ⌝ }
+    requires { ⌜ ((i : ℕ) → i < m → (getD terms i 0 < 2 ^ termWidth) × (getD counts i 0 < 2 ^ countWidth)) ⌝ }
     ensures { λ _. ⌜ Stored at m (cellsOf (side-by-side m terms counts)) (words (now (state .entry))) (words (now (state .exit))) ⌝ }
 {
     let squares = impact::squared(counts, m);
@@ -206,11 +225,11 @@ pub fn put_message(
     time: u32,
     serial: u32,
     m: usize,
-    terms: [u32; 16],
-    counts: [u32; 16],
+    terms: [u32; MOST_PAIRS],
+    counts: [u32; MOST_PAIRS],
 )
-    requires { ⌜ (length (now state) ≡ stateLength) × (j < slots) × (m ≤ 16) ⌝ }
-    requires { ⌜ ((i : ℕ) → i < m → (getD terms i 0 < 1024) × (getD counts i 0 < 256)) ⌝ }
+    requires { ⌜ (length (now state) ≡ stateLength) × (j < slots) × (m ≤ mostPairs) ⌝ }
+    requires { ⌜ ((i : ℕ) → i < m → (getD terms i 0 < 2 ^ termWidth) × (getD counts i 0 < 2 ^ countWidth)) ⌝ }
     ensures { λ _. ⌜ Written j (record { time = time; serial = serial; pairs = side-by-side m terms counts }) (words (now (state .entry))) (words (now (state .exit))) ⌝ }
 {
     let at = layout::RING + layout::SLOT * j;

@@ -1,17 +1,21 @@
 -- `squared` meets its contract. Assumes nothing.
-use Prim.Native.Nat.{_*_, _-_, _≤_, _<_}
+use Prim.Native.Nat.{ℕ, _*_, _-_, _^_, _≤_, _<_}
 use native.Mathlib.Nat.{mul-le-mul}
 use native.Mathlib.Omega.{arith}
 use mathlib.Core.Path.{_≡_}
 use lib.ListN.{getD}
 use borrow.Author.Needs.{needs}
+use Rattle.paper.specs.Frame.{countWidth}
 use Rattle.impact.specs.Cell.{squaresOf}
 use Rattle.impact.proofs.CellLaws.{squares-more}
 use Rattle.impact.proofs.squared.Statement.{statement}
 use Rattle.impact.proofs.squared.Tie as tie
 
+abbrev most : ℕ
+most = 2 ^ countWidth - 1
+
 abbrev Inv-loop : tie.InvT-loop
-Inv-loop m counts sum₀ i₀ sum i = (i ≤ m) × (sum ≡ squaresOf i counts) × (sum ≤ i * 65025)
+Inv-loop m counts sum₀ i₀ sum i = (i ≤ m) × (sum ≡ squaresOf i counts) × (sum ≤ i * (most * most))
 
 abbrev μ-loop : tie.MeasureT-loop
 μ-loop m counts sum₀ i₀ sum i = m - i
@@ -21,8 +25,8 @@ unfolding squaresOf
 loop-holds c = (omega arith, omega arith, omega arith)
 
 -- a count and its square
-count-most : (c : tie.In-loop Inv-loop μ-loop) → let f = getD (c .before .before .args .t1) (c .before .loop .i) 0 in (f < 256) × (f * f ≤ 65025)
-count-most c = let h = c .before .before .pre .1 (c .before .loop .i) (omega arith) in (h, mul-le-mul {n₂ = 255} {m₂ = 255} (omega arith) (omega arith))
+count-most : (c : tie.In-loop Inv-loop μ-loop) → let f = getD (c .before .before .args .t1) (c .before .loop .i) 0 in (f ≤ most) × (f * f ≤ most * most)
+count-most c = let h = c .before .before .pre .1 (c .before .loop .i) (omega arith) in (omega arith, mul-le-mul {n₂ = most} {m₂ = most} (omega arith) (omega arith))
 
 mul-sum : tie.Need-mul-sum Inv-loop μ-loop
 mul-sum c = let h = count-most c in search needs

@@ -1,5 +1,5 @@
 -- `add_terms` meets its contract. Assumes nothing.
-use Prim.Native.Nat.{ℕ, _-_, _/_, _<_, _≤_}
+use Prim.Native.Nat.{ℕ, _-_, _<_, _≤_}
 use native.Mathlib.Omega.{arith}
 use mathlib.Core.Path.{_≡_, sym, ap}
 use mathlib.Core.Bool.{true}
@@ -32,9 +32,9 @@ loop-again c =
     let e = slot-cell (a .state .now) (a .j) (omega arith) (omega arith) (l .loop .i) (omega (arith, l .before .size-in .ensures)) in (
       omega arith,
       simp length-set (l .loop .inv .1),
-      set-more (l .loop .set) (c .get .result / 4194304) (omega arith) (termOf (slot (words (a .state .now)) (a .j) .cells)) (l .loop .i)
+      set-more (l .loop .set) (cellTerm (c .get .result)) (omega arith) (termOf (slot (words (a .state .now)) (a .j) .cells)) (l .loop .i)
           (rw e (ap cellTerm (sym (c .get .ensures)))) (l .loop .inv .2),
-      λ t h. set-keeps (l .loop .set) (c .get .result / 4194304) (omega arith) t (l .loop .inv .3 t h),
+      λ t h. set-keeps (l .loop .set) (cellTerm (c .get .result)) (omega arith) t (l .loop .inv .3 t h),
     )
 
 returns : tie.Need-returns Inv-loop μ-loop

@@ -1,5 +1,5 @@
 -- `has_any` meets its contract. Assumes nothing.
-use Prim.Native.Nat.{ℕ, _-_, _/_, _<_, _≤_}
+use Prim.Native.Nat.{ℕ, _-_, _<_, _≤_}
 use native.Mathlib.Omega.{arith}
 use mathlib.Core.Path.{_≡_, sym, ap}
 use mathlib.Core.Bool.{false, true≢false, false≢true}
@@ -26,7 +26,7 @@ abbrev μ-loop : tie.MeasureT-loop
 read-is : (c : tie.After-get Inv-loop μ-loop)
     → let l = c .before .before in
     let a = l .before .before .before .before .args in
-    (l .loop .i < length (slot (words (a .state .now)) (a .j) .cells)) × (termOf (slot (words (a .state .now)) (a .j) .cells) (l .loop .i) ≡ c .get .result / 4194304)
+    (l .loop .i < length (slot (words (a .state .now)) (a .j) .cells)) × (termOf (slot (words (a .state .now)) (a .j) .cells) (l .loop .i) ≡ cellTerm (c .get .result))
 read-is c =
     let l = c .before .before in
     let a = l .before .before .before .before .args in

@@ -1,9 +1,10 @@
 -- `put_cells` meets its contract. Assumes nothing.
-use Prim.Native.Nat.{_-_, _<_}
+use Prim.Native.Nat.{_-_, _<_, _^_}
 use native.Mathlib.Omega.{arith}
 use mathlib.Core.Path.{_≡_, sym, ap, _∙_}
 use lib.ListN.{getD}
 use borrow.Author.Needs.{needs}
+use Rattle.paper.specs.Frame.{termWidth, countWidth}
 use Rattle.paper.specs.Impact.{impact}
 use Rattle.paper.specs.Write.{side-by-side}
 use Rattle.paper.proofs.ImpactLaws.{impact-most}
@@ -27,7 +28,7 @@ loop-holds c = storing-none (omega arith) (cells-length _ _ _ (omega arith) (ome
 
 -- the pair at i is within its ranges
 fit : (c : tie.In-loop Inv-loop μ-loop)
-    → let a = c .before .before .before .before .args in let i = c .before .loop .i in (getD (a .t4) i 0 < 1024) × (getD (a .t5) i 0 < 256)
+    → let a = c .before .before .before .before .args in let i = c .before .loop .i in (getD (a .t4) i 0 < 2 ^ termWidth) × (getD (a .t5) i 0 < 2 ^ countWidth)
 fit c = c .before .before .before .before .pre .1 (c .before .loop .i) (omega arith)
 
 of-requires : tie.Need-of-requires Inv-loop μ-loop

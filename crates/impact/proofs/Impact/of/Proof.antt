@@ -1,8 +1,10 @@
 -- `Impact::of` meets its contract. Assumes nothing.
-use Prim.Native.Nat.{_+_, _*_, _-_, _/_, _≤_}
+use Prim.Native.Nat.{ℕ, _+_, _*_, _-_, _/_, _^_, _≤_}
 use native.Mathlib.Nat.{mul-le-mul}
 use native.Mathlib.Omega.{arith}
 use borrow.Author.Needs.{needs}
+use Rattle.paper.specs.Frame.{countWidth}
+use Rattle.paper.specs.Impact.{top}
 use Rattle.impact.proofs.Halving.{Between, start, lower, upper, found}
 use Rattle.impact.proofs.Impact.of.Statement.{statement}
 use Rattle.impact.proofs.Impact.of.Tie as tie
@@ -13,8 +15,12 @@ Inv-loop count squares reach limit n low₀ high₀ low high = Between count n l
 abbrev μ-loop : tie.MeasureT-loop
 μ-loop count squares reach limit n low₀ high₀ low high = high - low
 
+-- how far the top times a count goes
+abbrev far : ℕ
+far = top * 2 ^ countWidth
+
 mul-limit : tie.Need-mul-limit Inv-loop μ-loop
-mul-limit c = let h : 1000 * c .args .count * (1000 * c .args .count) ≤ 255000 * 255000 = mul-le-mul {n₂ = 255000} {m₂ = 255000} (omega arith) (omega arith) in omega arith
+mul-limit c = let h : top * c .args .count * (top * c .args .count) ≤ far * far = mul-le-mul {n₂ = far} {m₂ = far} (omega arith) (omega arith) in omega arith
 
 loop-holds : tie.Need-loop-holds Inv-loop μ-loop
 loop-holds c = start (c .args .count) (c .args .squares)
@@ -22,15 +28,15 @@ loop-holds c = start (c .args .count) (c .args .squares)
 mul-if1 : tie.Need-mul-if1 Inv-loop μ-loop
 mul-if1 c =
     let l = c .before .loop in
-    let h : (l .low + l .high) / 2 * ((l .low + l .high) / 2) ≤ 1001 * 1001 = mul-le-mul {n₂ = 1001} {m₂ = 1001} (omega arith) (omega arith) in
+    let h : (l .low + l .high) / 2 * ((l .low + l .high) / 2) ≤ (top + 1) * (top + 1) = mul-le-mul {n₂ = top + 1} {m₂ = top + 1} (omega arith) (omega arith) in
     omega arith
 
 mul-if1-2 : tie.Need-mul-if1-2 Inv-loop μ-loop
 mul-if1-2 c =
     let l = c .before .loop in
     let n = c .before .before .args .squares in
-    let h : (l .low + l .high) / 2 * ((l .low + l .high) / 2) * n ≤ 1001 * 1001 * 4294967295 =
-    mul-le-mul {n₂ = 1001 * 1001} {m₂ = 4294967295} (mul-le-mul {n₂ = 1001} {m₂ = 1001} (omega arith) (omega arith)) (omega arith) in
+    let h : (l .low + l .high) / 2 * ((l .low + l .high) / 2) * n ≤ (top + 1) * (top + 1) * 4294967295 =
+    mul-le-mul {n₂ = (top + 1) * (top + 1)} {m₂ = 4294967295} (mul-le-mul {n₂ = top + 1} {m₂ = top + 1} (omega arith) (omega arith)) (omega arith) in
     omega arith
 
 loop-again : tie.Need-loop-again Inv-loop μ-loop

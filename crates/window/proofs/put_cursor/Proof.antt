@@ -1,9 +1,9 @@
 -- `put_cursor` meets its contract. Assumes nothing.
 use native.Mathlib.Omega.{arith}
 use borrow.Author.Needs.{needs}
-use Rattle.engine.proofs.HeaderLaws.{cursor-put}
-use Rattle.engine.proofs.put_cursor.Statement.{statement}
-use Rattle.engine.proofs.put_cursor.Tie as tie
+use Rattle.window.proofs.HeaderLaws.{cursor-put}
+use Rattle.window.proofs.put_cursor.Statement.{statement}
+use Rattle.window.proofs.put_cursor.Tie as tie
 
 returns : tie.Need-returns
 returns c =

@@ -5,29 +5,29 @@ use mathlib.Core.Path.{_≡_, ap, _∙_}
 use mathlib.Core.List.{List}
 use lib.ListN.{length, set, length-set}
 use lib.Seq.{getD-set-same, getD-set-other}
-use Rattle.paper.specs.Layout.{stateLength, slots, clockAt, oldestAt, countAt}
+use Rattle.paper.specs.Layout.{clockAt, oldestAt, countAt, headerWords, slots, stateLength}
 use Rattle.memory.specs.Words.{words, putWord}
 use Rattle.memory.proofs.WordLaws.{words-length, put-word, put-length}
 use Rattle.memory.proofs.KeepsLaws.{keeps-refl, keeps-more}
-use Rattle.engine.specs.Inner.{PutCursor}
+use Rattle.window.specs.Cursor.{PutCursor}
 
 -- in words
-cursor-set : (w : List ℕ) (clock oldest count : ℕ) → 4 < length w → PutCursor clock oldest count w (set (set (set w 2 clock) 3 oldest) 4 count)
+cursor-set : (w : List ℕ) (clock oldest count : ℕ) → countAt < length w → PutCursor clock oldest count w (set (set (set w clockAt clock) oldestAt oldest) countAt count)
 cursor-set w clock oldest count h =
-    let l₁ = length-set w 2 clock in
-    let l₂ = length-set (set w 2 clock) 3 oldest in
+    let l₁ = length-set w clockAt clock in
+    let l₂ = length-set (set w clockAt clock) oldestAt oldest in
     record {
       keeps =
-          keeps-more (keeps-more (keeps-more (keeps-refl clockAt (countAt + 1) w) 2 clock (omega arith) (omega arith)) 3 oldest (omega arith) (omega arith))
-          4 count (omega arith) (omega arith);
+          keeps-more (keeps-more (keeps-more (keeps-refl clockAt headerWords w) clockAt clock (omega arith) (omega arith)) oldestAt oldest (omega arith) (omega arith))
+          countAt count (omega arith) (omega arith);
       clock-is =
-          getD-set-other (set (set w 2 clock) 3 oldest) 4 2 count 0 (λ e. omega arith)
-          ∙ getD-set-other (set w 2 clock) 3 2 oldest 0 (λ e. omega arith)
-          ∙ getD-set-same w 2 clock 0 (omega arith);
+          getD-set-other (set (set w clockAt clock) oldestAt oldest) countAt clockAt count 0 (λ e. omega arith)
+          ∙ getD-set-other (set w clockAt clock) oldestAt clockAt oldest 0 (λ e. omega arith)
+          ∙ getD-set-same w clockAt clock 0 (omega arith);
       oldest-is =
-          getD-set-other (set (set w 2 clock) 3 oldest) 4 3 count 0 (λ e. omega arith)
-          ∙ getD-set-same (set w 2 clock) 3 oldest 0 (omega arith);
-      count-is = getD-set-same (set (set w 2 clock) 3 oldest) 4 count 0 (omega arith);
+          getD-set-other (set (set w clockAt clock) oldestAt oldest) countAt oldestAt count 0 (λ e. omega arith)
+          ∙ getD-set-same (set w clockAt clock) oldestAt oldest 0 (omega arith);
+      count-is = getD-set-same (set (set w clockAt clock) oldestAt oldest) countAt count 0 (omega arith);
     }
 
 -- as the words are put one after the other
