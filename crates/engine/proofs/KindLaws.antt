@@ -132,7 +132,8 @@ module _ (t s life clock o n : ℕ) (ps : List Pair) (w : List ℕ) (loaded : Lo
           (reply .marks) w₃ passed (λ q. (unfold accept in refl, refl)) reply refl (j .departures ∙ ap (λ (b : ℕ). b - n′) en)
 
 -- there is room for one more
-pub room-left : {capacity clock o n clock′ o′ n′ : ℕ} {x : Type 0} → (capacity ≤ mostMessages) × x → Roomy capacity clock o n clock′ o′ n′ → n < slots → n′ < mostMessages
+pub room-left : {capacity clock o n clock′ o′ n′ : ℕ} {x : Type 0} → (capacity ≤ mostMessages) × x → Roomy capacity clock o n clock′ o′ n′ → n < slots
+    → n′ < mostMessages
 room-left {capacity} {clock} {o} {n} {clock′} {o′} {n′} cap r h = go (ltb n capacity) refl (ltb 0 n) refl
   where
     go : (b : Bool) → ltb n capacity ≡ b → (z : Bool) → ltb 0 n ≡ z → n′ < mostMessages

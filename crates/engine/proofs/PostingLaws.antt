@@ -58,7 +58,11 @@ module _ (s : List ℕ) (t : ℕ) (out : List ℕ) where
         not-lent = λ _. refl;
         no-term = λ _ k. absurd (omega arith);
         refused = λ _. (refl, refl);
-        right = λ log r _. let e = counted log r in (sym (judged log (lt-ltb t (2 ^ termWidth) (omega arith)) (lt-leb (postingLength * length (posted log t)) (length out) (omega arith))), λ k. absurd (omega arith));
+        right = λ log r _.
+            let e = counted log r in (
+              sym (judged log (lt-ltb t (2 ^ termWidth) (omega arith)) (lt-leb (postingLength * length (posted log t)) (length out) (omega arith))),
+              λ k. absurd (omega arith),
+            );
       }
 
       pub postings-right : {out′ : List ℕ} → found ≤ length out / 8 → Filled t n (window (words s) o n) out out′

@@ -58,7 +58,8 @@ module _ (N T : ℕ) (N-least : 1 ≤ N) (N-most : N ≤ mostMessages) (T-least 
       let l : length (zeros stateLength) ≡ stateLength = length-replicate {A = ℕ} stateLength 0 in
       let l′ = put-length (zeros stateLength) capacityAt N in
       put-word (putWord (zeros stateLength) capacityAt N) lifeAt T (omega arith) (omega arith)
-      ∙ ap (λ (x : List ℕ). set x lifeAt T) (put-word (zeros stateLength) capacityAt N (omega arith) (omega arith) ∙ ap (λ (x : List ℕ). set x capacityAt N) (words-zeros stateWords))
+      ∙ ap (λ (x : List ℕ). set x lifeAt T)
+      (put-word (zeros stateLength) capacityAt N (omega arith) (omega arith) ∙ ap (λ (x : List ℕ). set x capacityAt N) (words-zeros stateWords))
 
   -- past N and T all is 0
   rest : (i : ℕ) → lifeAt < i → getD (after) i 0 ≡ 0
@@ -131,7 +132,8 @@ module _ (N T : ℕ) (s : List ℕ) {b : Bool} (test : b ≡ inRanges N T) where
     }
 
     -- zeros, then N, then T
-    pub start-right : length s ≡ stateLength → {s₁ s₂ s₃ : List ℕ} → s₁ ≡ zeros (length s) → s₂ ≡ putWord s₁ capacityAt N → s₃ ≡ putWord s₂ lifeAt T → StartPost N T s 0 s₃
+    pub start-right : length s ≡ stateLength → {s₁ s₂ s₃ : List ℕ} → s₁ ≡ zeros (length s) → s₂ ≡ putWord s₁ capacityAt N
+        → s₃ ≡ putWord s₂ lifeAt T → StartPost N T s 0 s₃
     unfolding freshMemory
     start-right l z n t = record {
       number = sym (judged N T (length s) (sym e ∙ test) ∙ rw (eq-eqb (length s) stateLength l) refl);
