@@ -12,10 +12,11 @@ use borrow.Author.Tests.{le-ltb}
 use Rattle.paper.specs.Frame.{Frame, Valid}
 use Rattle.paper.specs.Rank.{Query}
 use Rattle.paper.specs.Window.{Message}
-use Rattle.paper.specs.Log.{Log, numbers, queryAt, inForceNow, timeOf, judgeFrame, arrivals, accept, departs}
-use Rattle.paper.specs.Sound.{Messages}
+use Rattle.paper.specs.Log.{Log, numbers, queryAt, inForceNow, timeOf, judgeFrame, arrivals, accept, departs, stays}
+use Rattle.paper.specs.Order.{Split}
 use Rattle.paper.specs.Demand3.{marked, bitmap, names}
-use Rattle.paper.proofs.LogLaws.{stays, in-force-before, in-force-after, accept-sound, messages-parts, messages-append, in-force-valid}
+use Rattle.paper.proofs.LogLaws.{in-force-before, departs-first, in-force-after, accept-sound, in-force-valid, arrivals-valid}
+use Rattle.paper.proofs.SortLaws.{split-first}
 use Rattle.window.specs.Layout.{slots, clockAt, oldestAt, countAt, recordAt}
 use Rattle.window.specs.Slot.{Slot, slot, stored, ring, window}
 use Rattle.window.specs.Cursor.{Moved}
@@ -68,7 +69,7 @@ module _ (log : Log) (f : Frame) (w : List ℕ) (r : Represents log w) (v : Vali
       (sym (map-append (slot w) (ring (oldestOf w) (countOf w - n′)) (ring o′ n′))
       ∙ ap (map (slot w)) (sym (moved-parts (r .oldest-below) moved))
       ∙ r .shows
-      ∙ ap (map stored) (in-force-before log f (r .sound) ok)
+      ∙ ap (map stored) (departs-first log f (r .sound) ok)
       ∙ map-append stored (departs log f) (stays log f))
       left
 
@@ -80,39 +81,36 @@ module _ (log : Log) (f : Frame) (w : List ℕ) (r : Represents log w) (v : Vali
       ∙ ap length gone
       ∙ length-map (departs log f) stored
 
-  valid : Messages (departs log f ++ (stays log f ++ arrivals f))
-  valid =
-      let before : Messages (departs log f ++ stays log f) = subst Messages (in-force-before log f (r .sound) ok) (in-force-valid log (r .sound)) in
-      let after : Messages (stays log f ++ arrivals f) =
-      subst Messages (in-force-after log f (r .sound)) (in-force-valid (accept log f) (accept-sound log f (r .sound) v ok)) in
-      messages-append (departs log f) (stays log f ++ arrivals f) (messages-parts (departs log f) (stays log f) before .0) after
-
   module _ (newest : ℕ) (w₂ : List ℕ) (p : Prepared f w (oldestOf w) (countOf w) o′ n′ newest w₂) where
     all : countOf w - n′ + n′ ≡ countOf w
     all = let c = moved .count-most in omega arith
 
     -- the window changes as the log's does
-    change : Change w₂ (oldestOf w) (countOf w - n′) o′ n′ newest (departs log f) (stays log f) (arrivals f)
+    change : Change w₂ (oldestOf w) (countOf w - n′) o′ n′ newest (inForceNow log) (departs log f) (stays log f) (arrivals f)
     change = record {
       first-below = r .oldest-below;
       then-below = moved-below (r .oldest-below) moved;
       small = let e = all in let c = r .count-below in omega arith;
-      before = ap (ring (oldestOf w)) all ∙ moved-parts (r .oldest-below) moved;
+      before =
+          subst (λ (js : List ℕ). Split js (ring (oldestOf w) (countOf w - n′)) (ring o′ n′)) (sym (ap (ring (oldestOf w)) all ∙ moved-parts (r .oldest-below) moved))
+          (split-first (ring (oldestOf w) (countOf w - n′)) (ring o′ n′));
       after = p .after;
+      split = in-force-before log f (r .sound) ok;
       gone = p .gone-same ∙ gone;
       stay = p .left-same ∙ left;
       come = p .come;
       apart = λ h. ap (λ (k : ℕ). inRing (oldestOf w) k newest) all ∙ p .apart h;
-      valid = valid;
+      valid = in-force-valid log (r .sound);
+      valid-new = arrivals-valid f v;
     }
 
     few : (q : ℕ) (y : Query) → queryAt log q ≡ some y → length (y .terms) ≤ 8
     few q y e = query-terms (log .queries) q y (r .sound .queries) e .terms .at-most
 
     -- the records are as they were
-    before-holds : (q : ℕ) → q < numbers → HoldsAt w₂ q (oldestOf w) (countOf w - n′ + n′) (departs log f ++ stays log f) (queryAt log q)
+    before-holds : (q : ℕ) → q < numbers → HoldsAt w₂ q (oldestOf w) (countOf w - n′ + n′) (inForceNow log) (queryAt log q)
     before-holds q h =
-        subst₂ (λ (k : ℕ) (ms : List Message). HoldsAt w₂ q (oldestOf w) k ms (queryAt log q)) (sym all) (in-force-before log f (r .sound) ok)
+        subst (λ (k : ℕ). HoldsAt w₂ q (oldestOf w) k (inForceNow log) (queryAt log q)) (sym all)
         (holds-still w w₂ q (p .long) (p .records q h) (oldestOf w) (countOf w) (r .oldest-below) (let c = r .count-below in omega arith) (p .slots-same)
         (inForceNow log) (queryAt log q) (few q) (r .records q h))
 
@@ -131,7 +129,7 @@ module _ (log : Log) (f : Frame) (w : List ℕ) (r : Represents log w) (v : Vali
       done : ((q : ℕ) → q < numbers → HoldsAt w₃ q o′ (n′ + length (arrivals f)) (stays log f ++ arrivals f) (queryAt log q))
           × (marks ≡ bitmap (λ q. reachedIn w₂ q (queryAt log q) (departs log f ++ arrivals f)) numbers)
           × ((q : ℕ) → q < numbers → reachedIn w₂ q (queryAt log q) (departs log f ++ arrivals f) ≡ false → SameRecord w₂ w₃ q)
-      done = passed .right n′ (departs log f) (stays log f) (arrivals f) (log .queries) change refl (r .sound .queries) before-holds
+      done = passed .right n′ (inForceNow log) (departs log f) (stays log f) (arrivals f) (log .queries) change refl (r .sound .queries) before-holds
 
       header : (i : ℕ) → i < recordAt 0 → getD w₃ i 0 ≡ getD w₂ i 0
       header i h = passed .keeps .below i h
@@ -149,7 +147,7 @@ module _ (log : Log) (f : Frame) (w : List ℕ) (r : Represents log w) (v : Vali
           ∙ map-append (slot w₂) (ring o′ n′) (arriving newest)
           ∙ ap₂ (λ (a b : List Slot). a ++ b) (p .left-same ∙ left) (p .come)
           ∙ sym (map-append stored (stays log f) (arrivals f))
-          ∙ ap (map stored) (sym (in-force-after log f (r .sound))) in
+          ∙ ap (map stored) (sym (in-force-after log f (r .sound) ok)) in
           record {
             long = passed .keeps .long ∙ p .long ∙ r .long;
             capacity = header 0 (omega arith) ∙ p .capacity ∙ r .capacity;
@@ -162,7 +160,7 @@ module _ (log : Log) (f : Frame) (w : List ℕ) (r : Represents log w) (v : Vali
             sound = accept-sound log f (r .sound) v ok;
             records = λ q h.
                 subst₂ (λ (a b : ℕ). HoldsAt w₃ q a b (inForceNow (accept log f)) (queryAt (accept log f) q)) (sym at) (sym many)
-                (subst₂ (HoldsAt w₃ q o′ (n′ + length (arrivals f))) (sym (in-force-after log f (r .sound))) (sym (stable q .0)) (done .0 q h));
+                (subst₂ (HoldsAt w₃ q o′ (n′ + length (arrivals f))) (sym (in-force-after log f (r .sound) ok)) (sym (stable q .0)) (done .0 q h));
           }
 
       -- a query is marked where the frame reaches it

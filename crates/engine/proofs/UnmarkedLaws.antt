@@ -16,7 +16,7 @@ use Rattle.paper.specs.Log.{Log, numbers, queryAt, inForceNow, accept, judgeFra
 use Rattle.paper.specs.Sound.{Terms}
 use Rattle.paper.specs.Demand3.{names, reachedBy, marked}
 use Rattle.paper.proofs.Tests.{or-false}
-use Rattle.paper.proofs.LogLaws.{stays, in-force-before, in-force-after}
+use Rattle.paper.proofs.LogLaws.{in-force-before, in-force-after}
 use Rattle.paper.proofs.ThresholdLaws.{same-candidates}
 use Rattle.query.specs.Record.{keptOf, thresholds, list, Holds, HoldsAt}
 use Rattle.engine.specs.Represents.{oldestOf, countOf, Represents, keeping}
@@ -70,9 +70,8 @@ unmarked-kept log f w w′ q r r′ ok h e same =
         let t : Terms x = query-terms (log .queries) q x (r .sound .queries) y in
         let hs = thresholds w q (length (x .terms)) in
         let c : candidates (x .terms) hs (inForceNow log) ≡ candidates (x .terms) hs ms′ =
-        ap (candidates (x .terms) hs) (in-force-before log f (r .sound) ok)
-        ∙ same-candidates (x .terms) hs (departs log f) (stays log f) (arrivals f) u
-        ∙ ap (candidates (x .terms) hs) (sym (in-force-after log f (r .sound))) in
+        same-candidates (x .terms) hs (arrivals f) (in-force-before log f (r .sound) ok) u
+        ∙ ap (candidates (x .terms) hs) (sym (in-force-after log f (r .sound) ok)) in
         kept-some w′ q ms′ x t b
         ∙ ap some (same-kept w w′ q (r′ .long ∙ sym (r .long)) same (oldestOf w) (countOf w) (oldestOf w′) (countOf w′) (inForceNow log) ms′ x t a b c)
         ∙ sym (kept-some w q (inForceNow log) x t a)

@@ -41,8 +41,8 @@ reachedIn w q (some query) ms = reached (query .terms) (thresholds w q (length (
 pub record Passed (m : ℕ) (w : List ℕ) (o d o′ count newest marks : ℕ) (w′ : List ℕ) : Type 0 where
   pub keeps : Keeps (recordAt 0) (recordAt m) w w′
   pub small : marks < 2 ^ m
-  pub right : (s : ℕ) (ga sa ca : List Message) (qs : List (Option Query)) → Change w o d o′ s newest ga sa ca → count ≡ s + length ca → Queries qs
-      → ((q : ℕ) → q < numbers → HoldsAt w q o (d + s) (ga ++ sa) (getD qs q none))
+  pub right : (s : ℕ) (aa ga sa ca : List Message) (qs : List (Option Query)) → Change w o d o′ s newest aa ga sa ca → count ≡ s + length ca → Queries qs
+      → ((q : ℕ) → q < numbers → HoldsAt w q o (d + s) aa (getD qs q none))
       → ((q : ℕ) → q < m → HoldsAt w′ q o′ count (sa ++ ca) (getD qs q none))
       × (marks ≡ bitmap (λ q. reachedIn w q (getD qs q none) (ga ++ ca)) m)
       × ((q : ℕ) → q < m → reachedIn w q (getD qs q none) (ga ++ ca) ≡ false → SameRecord w w′ q)

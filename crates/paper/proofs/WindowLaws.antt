@@ -10,7 +10,9 @@ use lib.ListN.{length, length-append}
 use lib.Dec.{leb, ltb}
 use borrow.Author.Tests.{lt-ltb, ltb-true, lt-leb, leb-false, not-true}
 use Rattle.paper.proofs.Tests.{and-true}
-use Rattle.paper.specs.Window.{Message, standing, inForce, departing}
+use Rattle.paper.specs.Window.{Message, standing, inForce, departing, remaining}
+use Rattle.paper.specs.Order.{Split}
+use Rattle.paper.specs.Order.Split.{empty, goes, remains}
 use Rattle.paper.specs.Sound.{From, Chronological}
 
 -- ---- one message
@@ -78,6 +80,28 @@ module _ (N T : ℕ) where
           → (length (cond b (m ∷ inForce N T t l) (inForce N T t l)) ≤ suc (length l)) × (length (cond b (m ∷ inForce N T t l) (inForce N T t l)) ≤ N)
       go true e ih = let p = stands t (length l) m e in (omega arith, omega arith)
       go false e ih = (omega arith, omega arith)
+
+  -- what was in force departs or remains
+  pub departing-remaining : (t t′ more : ℕ) (l : List Message) → Split (inForce N T t l) (departing N T t t′ more l) (remaining N T t t′ more l)
+  unfolding inForce departing remaining
+  departing-remaining t t′ more [] = empty
+  departing-remaining t t′ more (m ∷ l) = go (standing N T t (length l) m) (standing N T t′ (length l + more) m) (departing-remaining t t′ more l)
+    where
+      go : (b d : Bool) {all gone stay : List Message} → Split all gone stay → Split (cond b (m ∷ all) all) (cond (b && not d) (m ∷ gone) gone) (cond (b && d) (m ∷ stay) stay)
+      go true true s = remains s
+      go true false s = goes s
+      go false d s = s
+
+  -- as time goes on, whoever stands stood before
+  pub remaining-staying : (t t′ more : ℕ) (l : List Message) → t ≤ t′ → remaining N T t t′ more l ≡ staying t′ more l
+  unfolding remaining staying
+  remaining-staying t t′ more [] h = refl
+  remaining-staying t t′ more (m ∷ l) h = rw (remaining-staying t t′ more l h) (go (standing N T t′ (length l + more) m) refl)
+    where
+      go : (b : Bool) → standing N T t′ (length l + more) m ≡ b
+          → cond (standing N T t (length l) m && b) (m ∷ staying t′ more l) (staying t′ more l) ≡ cond b (m ∷ staying t′ more l) (staying t′ more l)
+      go true e = rw (later-stands t t′ (length l) (length l + more) m m e h (omega arith) (omega arith))
+      go false e = rw (and-false (standing N T t (length l) m))
 
   -- what was in force is what departs and then what stays
   pub departing-staying : (t t′ more c : ℕ) (l : List Message) → Chronological c l → t ≤ t′ → inForce N T t l ≡ departing N T t t′ more l ++ staying t′ more l

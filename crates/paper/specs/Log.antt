@@ -9,7 +9,7 @@ use lib.Dec.{eqb, leb, ltb}
 use Rattle.paper.specs.Frame.{Frame, Shape, shape}
 use Rattle.paper.specs.Frame.Frame.{message, tick, register, unregister}
 use Rattle.paper.specs.Frame.Shape.{refused, accepted}
-use Rattle.paper.specs.Window.{Message, inForce, departing}
+use Rattle.paper.specs.Window.{Message, inForce, departing, remaining}
 use Rattle.paper.specs.Rank.{Query, Line, ranking, postings, lines}
 
 -- ---- sizes
@@ -136,6 +136,10 @@ replay needed log (c ∷ cs) = replay needed (after needed log c) cs
 -- the messages that an accepted frame makes leave, in the order of acceptance
 unfoldable pub departs : Log → Frame → List Message
 departs log f = departing (log .N) (log .T) (log .clock) (timeOf f) (length (arrivals f)) (log .messages)
+
+-- those that are in force before it and after it
+unfoldable pub stays : Log → Frame → List Message
+stays log f = remaining (log .N) (log .T) (log .clock) (timeOf f) (length (arrivals f)) (log .messages)
 
 abbrev pub departuresShape : Log → Shape → ℕ
 departuresShape log (refused r) = 0
