@@ -9,7 +9,7 @@ use lib.ListN.{length, getD, set, drop, replicate, length-set, length-replicate}
 use lib.Seq.{getD-set-same, getD-set-other, drop-length}
 use lib.Dec.{eqb, leb, ltb}
 use borrow.Author.Tests.{ltb-true, leb-true, eq-eqb, ne-eqb}
-use Rattle.paper.specs.Log.{fresh, stateLength, numbers, inForceNow, judgeStart}
+use Rattle.paper.specs.Log.{fresh, stateLength, numbers, inForceNow, seen, judgeStart}
 use Rattle.paper.specs.Rank.{Query}
 use Rattle.paper.specs.Window.{inForce}
 use Rattle.paper.proofs.Tests.{and-true}
@@ -70,7 +70,7 @@ module _ (N T : ℕ) (N-least : 1 ≤ N) (N-most : N ≤ 256) (T-least : 1 ≤ T
   unfolding ring inForce
   empty-window w o n e = rw e
 
-  empty-record : (q : ℕ) → HoldsAt after q (oldestOf after) (countOf after) (inForceNow (fresh N T)) none
+  empty-record : (q : ℕ) → HoldsAt after q (oldestOf after) (countOf after) (seen (fresh N T)) none
   empty-record q i h = rest (recordAt q + i) (omega arith)
 
   held : Represents (fresh N T) after
@@ -87,7 +87,7 @@ module _ (N T : ℕ) (N-least : 1 ≤ N) (N-most : N ≤ 256) (T-least : 1 ≤ T
         count-below = let e = rest 4 (omega arith) in omega arith;
         shows = empty-window after (oldestOf after) (countOf after) (rest 4 (omega arith));
         sound = fresh-sound N T N-least T-least;
-        records = λ q h. subst (HoldsAt after q (oldestOf after) (countOf after) (inForceNow (fresh N T))) (sym (none-at numbers q)) (empty-record q);
+        records = λ q h. subst (HoldsAt after q (oldestOf after) (countOf after) (seen (fresh N T))) (sym (none-at numbers q)) (empty-record q);
       }
 
   fresh-held : Represents (fresh N T) (words (freshMemory N T))

@@ -12,7 +12,7 @@ use borrow.Author.Tests.{le-ltb}
 use Rattle.paper.specs.Frame.{Frame, Valid}
 use Rattle.paper.specs.Rank.{Query}
 use Rattle.paper.specs.Window.{Message}
-use Rattle.paper.specs.Log.{Log, numbers, queryAt, inForceNow, timeOf, judgeFrame, arrivals, accept, departs, stays}
+use Rattle.paper.specs.Log.{Log, numbers, queryAt, inForceNow, seen, timeOf, judgeFrame, arrivals, accept, departs, stays, movedFor}
 use Rattle.paper.specs.Order.{Split}
 use Rattle.paper.specs.Demand3.{marked, bitmap, names}
 use Rattle.paper.proofs.LogLaws.{in-force-before, departs-first, in-force-after, accept-sound, in-force-valid, arrivals-valid}
@@ -108,14 +108,15 @@ module _ (log : Log) (f : Frame) (w : List ℕ) (r : Represents log w) (v : Vali
     few q y e = query-terms (log .queries) q y (r .sound .queries) e .terms .at-most
 
     -- the records are as they were
-    before-holds : (q : ℕ) → q < numbers → HoldsAt w₂ q (oldestOf w) (countOf w - n′ + n′) (inForceNow log) (queryAt log q)
+    before-holds : (q : ℕ) → q < numbers → HoldsAt w₂ q (oldestOf w) (countOf w - n′ + n′) (λ _. inForceNow log) (queryAt log q)
+    unfolding seen
     before-holds q h =
-        subst (λ (k : ℕ). HoldsAt w₂ q (oldestOf w) k (inForceNow log) (queryAt log q)) (sym all)
+        subst (λ (k : ℕ). HoldsAt w₂ q (oldestOf w) k (seen log) (queryAt log q)) (sym all)
         (holds-still w w₂ q (p .long) (p .records q h) (oldestOf w) (countOf w) (r .oldest-below) (let c = r .count-below in omega arith) (p .slots-same)
-        (inForceNow log) (queryAt log q) (few q) (r .records q h))
+        (seen log) (queryAt log q) (few q) (r .records q h))
 
     -- the thresholds too
-    reached-same : (q : ℕ) → q < numbers → (x : Option Query) → ((y : Query) → x ≡ some y → length (y .terms) ≤ 8) → (ms : List Message)
+    reached-same : (q : ℕ) → q < numbers → (x : Option Query) → ((y : Query) → x ≡ some y → length (y .terms) ≤ 8) → (ms : Query → List Message)
         → reachedIn w₂ q x ms ≡ reachedIn w q x ms
     reached-same q h none t ms = refl
     reached-same q h (some x) t ms = rw (same-thresholds w w₂ q (p .long) (p .records q h) (length (x .terms)) (t x refl))
@@ -123,12 +124,10 @@ module _ (log : Log) (f : Frame) (w : List ℕ) (r : Represents log w) (v : Vali
     module _ (marks : ℕ) (w₃ : List ℕ)
         (passed : Passed numbers w₂ (oldestOf w) (countOf w - n′) o′ (n′ + length (arrivals f)) newest marks w₃)
         (stable : (q : ℕ) → (queryAt (accept log f) q ≡ queryAt log q) × (names f q ≡ false)) where
-      movers : List Message
-      movers = departs log f ++ arrivals f
-
-      done : ((q : ℕ) → q < numbers → HoldsAt w₃ q o′ (n′ + length (arrivals f)) (stays log f ++ arrivals f) (queryAt log q))
-          × (marks ≡ bitmap (λ q. reachedIn w₂ q (queryAt log q) (departs log f ++ arrivals f)) numbers)
-          × ((q : ℕ) → q < numbers → reachedIn w₂ q (queryAt log q) (departs log f ++ arrivals f) ≡ false → SameRecord w₂ w₃ q)
+      done : ((q : ℕ) → q < numbers → HoldsAt w₃ q o′ (n′ + length (arrivals f)) (λ _. stays log f ++ arrivals f) (queryAt log q))
+          × (marks ≡ bitmap (λ q. reachedIn w₂ q (queryAt log q) (movedFor log f)) numbers)
+          × ((q : ℕ) → q < numbers → reachedIn w₂ q (queryAt log q) (movedFor log f) ≡ false → SameRecord w₂ w₃ q)
+      unfolding movedFor
       done = passed .right n′ (inForceNow log) (departs log f) (stays log f) (arrivals f) (log .queries) change refl (r .sound .queries) before-holds
 
       header : (i : ℕ) → i < recordAt 0 → getD w₃ i 0 ≡ getD w₂ i 0
@@ -136,7 +135,7 @@ module _ (log : Log) (f : Frame) (w : List ℕ) (r : Represents log w) (v : Vali
 
       -- memory holds the log after the frame
       held : Represents (accept log f) w₃
-      unfolding accept
+      unfolding accept seen
       held =
           let at : oldestOf w₃ ≡ o′ = header oldestAt (omega arith) ∙ p .oldest in
           let many : countOf w₃ ≡ n′ + length (arrivals f) = header countAt (omega arith) ∙ p .count in
@@ -159,22 +158,20 @@ module _ (log : Log) (f : Frame) (w : List ℕ) (r : Represents log w) (v : Vali
             shows = ap₂ (window w₃) at many ∙ shown;
             sound = accept-sound log f (r .sound) v ok;
             records = λ q h.
-                subst₂ (λ (a b : ℕ). HoldsAt w₃ q a b (inForceNow (accept log f)) (queryAt (accept log f) q)) (sym at) (sym many)
-                (subst₂ (HoldsAt w₃ q o′ (n′ + length (arrivals f))) (sym (in-force-after log f (r .sound) ok)) (sym (stable q .0)) (done .0 q h));
+                subst₂ (λ (a b : ℕ). HoldsAt w₃ q a b (seen (accept log f)) (queryAt (accept log f) q)) (sym at) (sym many)
+                (subst₂ (λ (ms : List Message). HoldsAt w₃ q o′ (n′ + length (arrivals f)) (λ _. ms)) (sym (in-force-after log f (r .sound) ok)) (sym (stable q .0)) (done .0 q h));
           }
 
       -- a query is marked where the frame reaches it
-      marks-are : (q : ℕ) → q < numbers → marked log (keeping w) f q ≡ reachedIn w₂ q (queryAt log q) movers
-      unfolding marked movers
-      marks-are q h =
-          rw (stable q .1) (reached-by log w q (departs log f ++ arrivals f) r h ∙ sym (reached-same q h (queryAt log q) (few q) (departs log f ++ arrivals f)))
+      marks-are : (q : ℕ) → q < numbers → marked log (keeping w) f q ≡ reachedIn w₂ q (queryAt log q) (movedFor log f)
+      unfolding marked
+      marks-are q h = rw (stable q .1) (reached-by log w q (movedFor log f) r h ∙ sym (reached-same q h (queryAt log q) (few q) (movedFor log f)))
 
       -- the frame is taken in
       pub taken-in : (reply : Reply) → reply .marks ≡ marks → reply .departures ≡ countOf w - n′ → Accepted log f w reply w₃
-      unfolding movers
       taken-in reply em ed = record {
         holds = held;
-        marks = em ∙ done .1 ∙ sym (bitmap-same (marked log (keeping w) f) (λ q. reachedIn w₂ q (queryAt log q) (departs log f ++ arrivals f)) numbers marks-are);
+        marks = em ∙ done .1 ∙ sym (bitmap-same (marked log (keeping w) f) (λ q. reachedIn w₂ q (queryAt log q) (movedFor log f)) numbers marks-are);
         departures = ed ∙ departed;
         untouched = λ q h e i l. done .2 q h (sym (marks-are q h) ∙ e) i l ∙ p .records q h i l;
       }

@@ -6,7 +6,7 @@ use mathlib.Core.List.{List, map}
 use mathlib.Core.Option.{none, some}
 use lib.ListN.{length, getD}
 use lib.Dec.{eqb}
-use Rattle.paper.specs.Log.{Log, numbers, queryAt, inForceNow}
+use Rattle.paper.specs.Log.{Log, numbers, queryAt, inForceNow, seen}
 use Rattle.paper.specs.Sound.{Sound}
 use Rattle.paper.specs.Demand3.{Keeping}
 use Rattle.window.specs.Layout.{slots, stateWords, capacityAt, lifeAt, clockAt, oldestAt, countAt, recordAt}
@@ -31,7 +31,7 @@ pub record Represents (log : Log) (w : List ℕ) : Type 0 where
   pub count-below : countOf w < slots
   pub shows : window w (oldestOf w) (countOf w) ≡ map stored (inForceNow log)
   pub sound : Sound log
-  pub records : (q : ℕ) → q < numbers → HoldsAt w q (oldestOf w) (countOf w) (inForceNow log) (queryAt log q)
+  pub records : (q : ℕ) → q < numbers → HoldsAt w q (oldestOf w) (countOf w) (seen log) (queryAt log q)
 
 -- what the memory keeps of each query: nothing where its record starts with 0
 unfoldable pub keeping : List ℕ → Keeping

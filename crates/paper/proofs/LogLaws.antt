@@ -17,7 +17,7 @@ use Rattle.paper.specs.Window.{Message, standing, inForce}
 use Rattle.paper.specs.Order.{Split}
 use Rattle.paper.specs.Order.Split.{empty, goes, remains}
 use Rattle.paper.specs.Rank.{Query}
-use Rattle.paper.specs.Log.{Log, Call, fresh, numbers, inForceNow, inForceAt, hasSerial, timeOf, judgeKind, judgeFrame, judgeShape, lent, judge, arrivals, queriesAfter, accept, acceptShape, after, replay, departs, stays}
+use Rattle.paper.specs.Log.{Log, Call, fresh, numbers, inForceNow, inForceAt, hasSerial, timeOf, judgeKind, judgeFrame, judgeShape, lent, judge, arrivals, queriesAfter, accept, acceptShape, after, replay, departs, stays, seen, movedFor}
 use Rattle.paper.specs.Sound.{From, Chronological, Distinct, Messages, Terms, Queries, Sound}
 use Rattle.paper.proofs.FrameLaws.{shape-valid}
 use Rattle.paper.proofs.WindowLaws.{staying, standing-true, in-force-append, departing-remaining, remaining-staying, departing-staying}
@@ -158,6 +158,26 @@ unfolding accept
 in-force-after log f sound ok =
     in-force-append (log .N) (log .T) (timeOf f) (log .messages) (arrivals f)
     ∙ ap₂ _++_ (sym (stays-standing log f sound ok)) (arrive (log .N) (log .T) f (sound .N-least) (sound .T-least))
+
+-- What a query sees before a frame and after it, and what the frame moves for it.
+pub record Sees (log : Log) (f : Frame) (q : Query) : Type 0 where
+  pub gone : List Message
+  pub stay : List Message
+  pub come : List Message
+  pub before : Split (seen log q) gone stay
+  pub after : seen (accept log f) q ≡ stay ++ come
+  pub moved : movedFor log f q ≡ gone ++ come
+
+pub sees : (log : Log) (f : Frame) (q : Query) → Sound log → judgeFrame log f ≡ 0 → Sees log f q
+unfolding seen movedFor
+sees log f q sound ok = record {
+  gone = departs log f;
+  stay = stays log f;
+  come = arrivals f;
+  before = in-force-before log f sound ok;
+  after = in-force-after log f sound ok;
+  moved = refl;
+}
 
 -- the serial of an arriving message isn't among those that stay
 new-serial : (log : Log) (t s : ℕ) (ps : List Pair) → Sound log → judgeFrame log (message t s ps) ≡ 0 → hasSerial s (stays log (message t s ps)) ≡ false

@@ -20,7 +20,7 @@ use Rattle.paper.specs.Window.{Message}
 use Rattle.paper.specs.Rank.{Query}
 use Rattle.paper.specs.Order.{In}
 use Rattle.paper.specs.Threshold.{Kept, reached}
-use Rattle.paper.specs.Log.{Log, Call, numbers, queryAt, inUse, inForceNow, lent, judgeShape, judgeFrame, judgeKind, judge, accept, acceptShape, after}
+use Rattle.paper.specs.Log.{Log, Call, numbers, queryAt, inUse, seen, lent, judgeShape, judgeFrame, judgeKind, judge, accept, acceptShape, after}
 use Rattle.paper.specs.Demand3.{Keeping, SettledAt, AllSettled, names, reachedBy, marked, bitmap, Reply, marksShape, replyTo, markedShape, markedBy, movedShape, moved, ExceedsKept, Answered}
 use Rattle.paper.proofs.Tests.{not-refused}
 use Rattle.paper.proofs.ThresholdLaws.{reached-exactly}
@@ -108,7 +108,7 @@ registered-unnamed log (unregister t m) n q q′ ok b a = go (eqb m n) refl
     go true e = sym (ap inUse a) ∙ ap (λ (i : ℕ). inUse (getD (set (log .queries) i none) n none)) (eqb-true m n e) ∙ ap inUse (emptied (log .queries) n)
     go false e = refl
 
-none-reaches : (x : Option Query) (y : Option Kept) → reachedBy x y [] ≡ false
+none-reaches : (x : Option Query) (y : Option Kept) → reachedBy x y (λ q. []) ≡ false
 unfolding reached
 none-reaches none y = refl
 none-reaches (some q) none = refl
@@ -131,21 +131,21 @@ module _ (log : Log) (kept : Keeping) (n : ℕ) (q q′ : Query) (before : query
       x = shape (c .bytes)
 
       shaped : (b : Bool) → eqb (judgeShape log x) 0 ≡ b → queryAt (cond b (acceptShape log x) log) n ≡ some q′
-          → cond b (markedShape log kept x n) false ≡ reachedBy (queryAt log n) (kept n) (cond b (movedShape log x) [])
+          → cond b (markedShape log kept x n) false ≡ reachedBy (queryAt log n) (kept n) (λ q. cond b (movedShape log x q) [])
       shaped true e a = marked-shape x (eqb-true (judgeShape log x) 0 e) a
       shaped false e a = sym (none-reaches (queryAt log n) (kept n))
 
       go : (b : Bool) → queryAt (cond (eqb (cond b (judgeShape log x) 12) 0) (acceptShape log x) log) n ≡ some q′
           → cond (eqb (cond b (judgeShape log x) 12) 0) (markedShape log kept x n) false
-          ≡ reachedBy (queryAt log n) (kept n) (cond (eqb (cond b (judgeShape log x) 12) 0) (movedShape log x) [])
+          ≡ reachedBy (queryAt log n) (kept n) (λ q. cond (eqb (cond b (judgeShape log x) 12) 0) (movedShape log x q) [])
       go true a = shaped (eqb (judgeShape log x) 0) refl a
       go false a = sym (none-reaches (queryAt log n) (kept n))
 
 -- reached by what is kept of a settled query
-reached-kept : (q : Query) (now : List Message) (x : Option Kept) (ms : List Message) → SettledAt (some q) now x
-    → (reachedBy (some q) x ms ≡ true) ↔ ((m : Message) × In m ms × ExceedsKept q x m)
+reached-kept : (q : Query) (now : Query → List Message) (x : Option Kept) (ms : Query → List Message) → SettledAt (some q) now x
+    → (reachedBy (some q) x ms ≡ true) ↔ ((m : Message) × In m (ms q) × ExceedsKept q x m)
 reached-kept q now none ms s = absurd s
-reached-kept q now (some x) ms s = reached-exactly (q .terms) (x .thresholds) (s .one-each) ms
+reached-kept q now (some x) ms s = reached-exactly (q .terms) (x .thresholds) (s .one-each) (ms q)
 
 -- a call answered as the log says, on what agreed with the log, marks as the demand says
 pub answered-by-log : (needed : ℕ) (log : Log) (kept : Keeping) (c : Call) (r : Reply) (kept′ : Keeping) → AllSettled log kept → r ≡ replyTo needed log kept c
@@ -158,7 +158,7 @@ answered-by-log needed log kept c r kept′ settled e unmarked =
           ap (λ (r : Reply). odd (r .marks / 2 ^ n)) e ∙ bit-marked needed log kept c n l
           ∙ marked-reached log kept n q q′ before needed c after′
           ∙ ap (λ (x : Option Query). reachedBy x (kept n) (moved needed log c)) before in
-          let x = reached-kept q (inForceNow log) (kept n) (moved needed log c) (subst (λ (y : Option Query). SettledAt y (inForceNow log) (kept n)) before (settled n l)) in
+          let x = reached-kept q (seen log) (kept n) (moved needed log c) (subst (λ (y : Option Query). SettledAt y (seen log) (kept n)) before (settled n l)) in
           (λ h. x .0 (sym is ∙ h), λ h. is ∙ x .1 h);
       unmarked = unmarked;
     }

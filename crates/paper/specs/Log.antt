@@ -53,6 +53,10 @@ inForceAt log t = inForce (log .N) (log .T) t (log .messages)
 abbrev pub inForceNow : Log → List Message
 inForceNow log = inForceAt log (log .clock)
 
+-- the messages that a query ranks and takes its candidates from
+unfoldable pub seen : Log → Query → List Message
+seen log q = inForceNow log
+
 -- ---- judging a frame
 
 unfoldable pub hasSerial : ℕ → List Message → Bool
@@ -141,6 +145,10 @@ departs log f = departing (log .N) (log .T) (log .clock) (timeOf f) (length (arr
 unfoldable pub stays : Log → Frame → List Message
 stays log f = remaining (log .N) (log .T) (log .clock) (timeOf f) (length (arrivals f)) (log .messages)
 
+-- what it moves for a query: the messages that the query sees before it and not after it, then those that it sees after it and not before it
+unfoldable pub movedFor : Log → Frame → Query → List Message
+movedFor log f q = departs log f ++ arrivals f
+
 abbrev pub departuresShape : Log → Shape → ℕ
 departuresShape log (refused r) = 0
 departuresShape log (accepted f) = length (departs log f)
@@ -162,13 +170,14 @@ judgeStart N T state =
 unfoldable pub judgeList : ℕ → Log → ℕ → ℕ → ℕ → ℕ
 judgeList needed log state output n = cond (lent state output needed) (cond (inUse (queryAt log n)) 0 10) 12
 
-abbrev pub listOf : List Message → Option Query → List Line
+-- the list of a query that sees these messages
+abbrev pub listOf : (Query → List Message) → Option Query → List Line
 listOf ms none = []
-listOf ms (some q) = lines (ranking q ms)
+listOf ms (some q) = lines (ranking q (ms q))
 
 -- the entries of a list reading, none where it is refused
 unfoldable pub listed : ℕ → Log → ℕ → ℕ → ℕ → List Line
-listed needed log state output n = cond (eqb (judgeList needed log state output n) 0) (listOf (inForceNow log) (queryAt log n)) []
+listed needed log state output n = cond (eqb (judgeList needed log state output n) 0) (listOf (seen log) (queryAt log n)) []
 
 -- the postings of a term in force now
 abbrev pub posted : Log → ℕ → List Line
