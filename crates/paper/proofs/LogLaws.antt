@@ -9,7 +9,7 @@ use mathlib.Core.Option.{Option, none, some}
 use lib.ListN.{length, set, replicate, length-set}
 use lib.Dec.{eqb, ltb}
 use borrow.Author.Tests.{ltb-false, eqb-true, eqb-false, ne-eqb}
-use Rattle.paper.proofs.Tests.{or-false, not-refused}
+use Rattle.paper.proofs.Tests.{by-bool, or-false, not-refused}
 use Rattle.paper.specs.Frame.{Pair, Frame, Shape, Valid, shape}
 use Rattle.paper.specs.Frame.Frame.{message, tick, register, unregister}
 use Rattle.paper.specs.Frame.Shape.{refused, accepted}
@@ -81,11 +81,9 @@ messages-split (remains p) a = let r = messages-split p (a .2) in (r .0, (a .0, 
 messages-in-force : (N T t : ℕ) (l : List Message) → Messages l → Messages (inForce N T t l)
 unfolding inForce
 messages-in-force N T t [] a = tt
-messages-in-force N T t (m ∷ l) a = go (standing N T t (length l) m) (messages-in-force N T t l (a .2))
-  where
-    go : (b : Bool) → Messages (inForce N T t l) → Messages (cond b (m ∷ inForce N T t l) (inForce N T t l))
-    go true ih = (a .0, a .1, ih)
-    go false ih = ih
+messages-in-force N T t (m ∷ l) a =
+    let ih = messages-in-force N T t l (a .2) in
+    by-bool (standing N T t (length l) m) (λ e. rw e (a .0, a .1, ih)) (λ e. rw e ih)
 
 pub in-force-valid : (log : Log) → Sound log → Messages (inForceNow log)
 in-force-valid log sound = messages-in-force (log .N) (log .T) (log .clock) (log .messages) (sound .messages)

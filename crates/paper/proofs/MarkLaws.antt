@@ -22,7 +22,7 @@ use Rattle.paper.specs.Order.{In}
 use Rattle.paper.specs.Threshold.{Kept, reached}
 use Rattle.paper.specs.Log.{Log, Call, numbers, queryAt, inUse, seen, lent, judgeShape, judgeFrame, judgeKind, judge, accept, acceptShape, after}
 use Rattle.paper.specs.Demand3.{Keeping, SettledAt, AllSettled, names, reachedBy, marked, bitmap, Reply, marksShape, replyTo, markedShape, markedBy, movedShape, moved, ExceedsKept, Answered}
-use Rattle.paper.proofs.Tests.{not-refused}
+use Rattle.paper.proofs.Tests.{by-bool, not-refused}
 use Rattle.paper.proofs.ThresholdLaws.{reached-exactly}
 
 -- ---- bit q of the number whose bits are tests
@@ -30,11 +30,9 @@ use Rattle.paper.proofs.ThresholdLaws.{reached-exactly}
 pub bitmap-small : (f : ℕ → Bool) (n : ℕ) → bitmap f n < 2 ^ n
 unfolding bitmap
 bitmap-small f zero = omega arith
-bitmap-small f (suc n) = go (f n) (bitmap-small f n)
-  where
-    go : (b : Bool) → bitmap f n < 2 ^ n → cond b (2 ^ n) 0 + bitmap f n < 2 ^ suc n
-    go true h = rw (pow-succ' 2 n) (omega arith)
-    go false h = rw (pow-succ' 2 n) (omega arith)
+bitmap-small f (suc n) =
+    let h = bitmap-small f n in
+    by-bool (f n) (λ e. rw (e, pow-succ' 2 n) (omega arith)) (λ e. rw (e, pow-succ' 2 n) (omega arith))
 
 -- the highest bit of a number, and those below it
 bit-top : (b : Bool) (n : ℕ) {r : ℕ} → r < 2 ^ n → odd ((cond b (2 ^ n) 0 + r) / 2 ^ n) ≡ b
@@ -52,16 +50,12 @@ bit-below true d q r =
 pub bitmap-bit : (f : ℕ → Bool) (n q : ℕ) → q < n → odd (bitmap f n / 2 ^ q) ≡ f q
 unfolding bitmap
 bitmap-bit f zero q l = absurd (omega arith)
-bitmap-bit f (suc n) q l = go (ltb q n) refl (bitmap-bit f n q)
-  where
-    go : (b : Bool) → ltb q n ≡ b → (q < n → odd (bitmap f n / 2 ^ q) ≡ f q) → odd ((cond (f n) (2 ^ n) 0 + bitmap f n) / 2 ^ q) ≡ f q
-    go true t ih =
-        let h : q < n = ltb-true q n t in
-        let e : n ≡ suc (n - 1 - q) + q = omega arith in
-        ap (λ (x : ℕ). odd ((cond (f n) (2 ^ x) 0 + bitmap f n) / 2 ^ q)) e ∙ bit-below (f n) (n - 1 - q) q (bitmap f n) ∙ ih h
-    go false t ih =
-        let e : q ≡ n = let k = ltb-false q n t in omega arith in
-        rw e (bit-top (f n) n (bitmap-small f n))
+bitmap-bit f (suc n) q l =
+    by-bool (ltb q n)
+    (λ t. let h : q < n = ltb-true q n t in
+    let e : n ≡ suc (n - 1 - q) + q = omega arith in
+    ap (λ (x : ℕ). odd ((cond (f n) (2 ^ x) 0 + bitmap f n) / 2 ^ q)) e ∙ bit-below (f n) (n - 1 - q) q (bitmap f n) ∙ bitmap-bit f n q h)
+    (λ t. let e : q ≡ n = let k = ltb-false q n t in omega arith in rw e (bit-top (f n) n (bitmap-small f n)))
 
 zero-bit : (q : ℕ) → odd (0 / 2 ^ q) ≡ false
 zero-bit q = bit-top false q (pow-pos q)
@@ -76,11 +70,8 @@ marks-shape log kept (accepted f) n l = bitmap-bit (marked log kept f) numbers n
 pub bit-marked : (needed : ℕ) (log : Log) (kept : Keeping) (c : Call) (n : ℕ) → n < numbers
     → odd (replyTo needed log kept c .marks / 2 ^ n) ≡ markedBy needed log kept c n
 unfolding replyTo markedBy
-bit-marked needed log kept c n l = go (eqb (judge needed log c) 0)
-  where
-    go : (b : Bool) → odd (cond b (marksShape log kept (shape (c .bytes))) 0 / 2 ^ n) ≡ cond b (markedShape log kept (shape (c .bytes)) n) false
-    go true = marks-shape log kept (shape (c .bytes)) n l
-    go false = zero-bit n
+bit-marked needed log kept c n l =
+    by-bool (eqb (judge needed log c) 0) (λ e. rw e (marks-shape log kept (shape (c .bytes)) n l)) (λ e. rw e (zero-bit n))
 
 -- ---- a query registered before and after a frame
 
@@ -95,18 +86,15 @@ pub registered-unnamed : (log : Log) (f : Frame) (n : ℕ) (q q′ : Query) → 
 unfolding accept
 registered-unnamed log (message t s ps) n q q′ ok b a = refl
 registered-unnamed log (tick t) n q q′ ok b a = refl
-registered-unnamed log (register t m k ps) n q q′ ok b a = go (eqb m n) refl
-  where
-    go : (e : Bool) → eqb m n ≡ e → e ≡ false
-    go true e =
-        let free = not-refused (inUse (queryAt log m)) 8 0 (not-refused (ltb t (log .clock)) 6 (judgeKind log (register t m k ps)) ok .1) .0 in
-        sym (ap inUse (ap (queryAt log) (eqb-true m n e) ∙ b)) ∙ free
-    go false e = refl
-registered-unnamed log (unregister t m) n q q′ ok b a = go (eqb m n) refl
-  where
-    go : (e : Bool) → eqb m n ≡ e → e ≡ false
-    go true e = sym (ap inUse a) ∙ ap (λ (i : ℕ). inUse (getD (set (log .queries) i none) n none)) (eqb-true m n e) ∙ ap inUse (emptied (log .queries) n)
-    go false e = refl
+registered-unnamed log (register t m k ps) n q q′ ok b a =
+    by-bool (eqb m n)
+    (λ e. let free = not-refused (inUse (queryAt log m)) 8 0 (not-refused (ltb t (log .clock)) 6 (judgeKind log (register t m k ps)) ok .1) .0 in
+    e ∙ sym (ap inUse (ap (queryAt log) (eqb-true m n e) ∙ b)) ∙ free)
+    (λ e. e)
+registered-unnamed log (unregister t m) n q q′ ok b a =
+    by-bool (eqb m n)
+    (λ e. e ∙ sym (ap inUse a) ∙ ap (λ (i : ℕ). inUse (getD (set (log .queries) i none) n none)) (eqb-true m n e) ∙ ap inUse (emptied (log .queries) n))
+    (λ e. e)
 
 none-reaches : (x : Option Query) (y : Option Kept) → reachedBy x y (λ q. []) ≡ false
 unfolding reached

@@ -18,7 +18,7 @@ use Rattle.paper.specs.Order.{In, Split}
 use Rattle.paper.specs.Sort.{select, sort}
 use Rattle.paper.specs.Rank.{Query, Entry, ahead, entry, scoring, entries, ranking, lines, serials}
 use Rattle.paper.specs.Threshold.{termAt, thresholdSum, Exceeds, exceeds, candidates, reached, lastScore, Tight, Kept, Settled}
-use Rattle.paper.proofs.Tests.{or-false, or-true}
+use Rattle.paper.proofs.Tests.{by-bool, or-false, or-true}
 use Rattle.paper.proofs.SortLaws.{in-left, in-right, select-all, select-in, select-take, select-select, select-change, select-map, count-sort, best}
 use Rattle.paper.proofs.RankLaws.{ranking-length, ranking-last}
 
@@ -34,11 +34,7 @@ score-below (q ∷ qs) (h ∷ hs) ps e n =
     omega (arith, mul-le-mul-left (q .amount) low, score-below qs hs ps (d .1) (omega arith))
 
 above-exceeds : (qs : List Pair) (hs : List ℕ) (ps : List Pair) → length hs ≡ length qs → thresholdSum qs hs < score qs ps → exceeds qs hs ps ≡ true
-above-exceeds qs hs ps n h = go (exceeds qs hs ps) refl
-  where
-    go : (t : Bool) → exceeds qs hs ps ≡ t → t ≡ true
-    go true e = refl
-    go false e = absurd (omega (arith, score-below qs hs ps e n))
+above-exceeds qs hs ps n h = by-bool (exceeds qs hs ps) (λ e. e) (λ e. absurd (omega (arith, score-below qs hs ps e n)))
 
 -- a message that exceeds one is strictly above it in some term
 pub exceeds-strictly : (qs : List Pair) (hs : List ℕ) (ps : List Pair) → exceeds qs hs ps ≡ true → Exceeds qs hs ps

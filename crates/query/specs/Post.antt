@@ -161,8 +161,8 @@ pub record KeptList (w : List ℕ) (q o d : ℕ) (fs w′ : List ℕ) : Type 0 w
   pub keeps : Keeps (flagsIn q) (recordAt q + recordWords) w w′
   pub flags-are : Without fs o d (flags w′ q)
 
--- A change of the window: of d + s slots from slot o on, those that hold `ga` go and the s from slot o′ on, which hold `sa`, stay; `ca` come.
--- Slots and messages before it, `aa`, are split alike.
+-- A change of the window, in which `aa` are: of d + s slots from slot o on, those that hold `ga` go and the s from slot o′ on, which hold `sa`,
+-- stay; `ca` come.
 pub record Change (w : List ℕ) (o d o′ s newest : ℕ) (aa ga sa ca : List Message) : Type 0 where
   pub first-below : o < slots
   pub then-below : o′ < slots
