@@ -12,8 +12,8 @@ use Rattle.paper.specs.Frame.{Frame, Pair, Valid, numbers}
 use Rattle.paper.specs.Frame.Frame.{message, tick}
 use Rattle.paper.specs.Window.{mostMessages}
 use Rattle.paper.specs.Layout.{slots, lifeAt, clockAt, capacityAt}
-use Rattle.paper.specs.Log.{Log, inForceAt, timeOf, judgeKind, judgeFrame, accept}
-use Rattle.paper.proofs.LogLaws.{stays}
+use Rattle.paper.specs.Log.{Log, inForceAt, timeOf, judgeKind, judgeFrame, accept, stays}
+use Rattle.paper.proofs.LogLaws.{stays-standing}
 use Rattle.paper.proofs.WindowLaws.{staying-none}
 use Rattle.memory.specs.Words.{words}
 use Rattle.window.specs.Slot.{stored, window, holdsSerial}
@@ -46,12 +46,14 @@ module _ (t life clock o n clock′ o′ n′ marks : ℕ) (w w₂ w₃ : List �
       let moved : Moved (oldestOf w) (countOf w) o′ n′ = subst₂ (λ (a b : ℕ). Moved a b o′ n′) eo en (adv .moved) in
       let adv′ : Advanced w (log .T) (oldestOf w) (countOf w) t clock′ o′ n′ =
       subst (λ (l : ℕ). Advanced w l (oldestOf w) (countOf w) t clock′ o′ n′) (life-is ∙ r .life) (subst₂ (λ (a b : ℕ). Advanced w life a b t clock′ o′ n′) eo en adv) in
+      let ok = judged-kind log (tick t) late in
       let left : window w o′ n′ ≡ map stored (stays log (tick t)) =
-      advanced-shows log (r .sound) late (r .shows) adv′ ∙ ap (map stored) (sym (staying-none (log .N) (log .T) t (log .messages))) in
+      advanced-shows log (r .sound) late (r .shows) adv′
+      ∙ ap (map stored) (sym (stays-standing log (tick t) (r .sound) ok ∙ staying-none (log .N) (log .T) t (log .messages))) in
       let passed′ : Passed numbers w₂ (oldestOf w) (countOf w - n′) o′ (n′ + 0) slots marks w₃ =
       subst (λ (c : ℕ). Passed numbers w₂ (oldestOf w) (countOf w - n′) o′ c slots marks w₃) (sym (add-zero n′))
       (subst₂ (λ (a b : ℕ). Passed numbers w₂ a (b - n′) o′ n′ slots marks w₃) eo en passed) in
-      taken-in log (tick t) w r small (judged-kind log (tick t) late) o′ n′ moved left slots w₂
+      taken-in log (tick t) w r small ok o′ n′ moved left slots w₂
       (ticked w (oldestOf w) (countOf w) o′ n′ (r .oldest-below) (r .count-below) moved t w₂ put)
       marks w₃ passed′ (λ q. (unfold accept in refl, refl)) reply em (ed ∙ ap (λ (b : ℕ). b - n′) en)
 
@@ -124,7 +126,8 @@ module _ (t s life clock o n : ℕ) (ps : List Pair) (w : List ℕ) (loaded : Lo
       message-accepted =
           let low : o < slots = loaded .oldest-below in
           let left : window w o′ n′ ≡ map stored (stays log (message t s ps)) =
-          roomy-shows w log t (r .sound) (moved-below low (adv .moved)) fresh-now (subst (λ (c : ℕ). Roomy c clock₁ o₁ n₁ clock₂ o′ n′) capacity-is roomy) in
+          roomy-shows w log t (r .sound) (moved-below low (adv .moved)) fresh-now (subst (λ (c : ℕ). Roomy c clock₁ o₁ n₁ clock₂ o′ n′) capacity-is roomy)
+          ∙ ap (map stored) (sym (stays-standing log (message t s ps) (r .sound) ok)) in
           let passed : Passed numbers (j .moved) (oldestOf w) (countOf w - n′) o′ (n′ + 1) ((o′ + n′) % slots) (reply .marks) w₃ =
           subst₂ (λ (a b : ℕ). Passed numbers (j .moved) a (b - n′) o′ (n′ + 1) ((o′ + n′) % slots) (reply .marks) w₃) eo en (j .passed) in
           taken-in log (message t s ps) w r v ok o′ n′ moved-on left ((o′ + n′) % slots) (j .moved)

@@ -11,7 +11,7 @@ use borrow.Author.Tests.{eq-eqb}
 use Rattle.paper.specs.Frame.{numbers}
 use Rattle.paper.specs.Rank.{Query, ranking, lines}
 use Rattle.paper.specs.Layout.{stateLength, recordAt}
-use Rattle.paper.specs.Log.{Log, queryAt, inUse, inForceNow, judgeList}
+use Rattle.paper.specs.Log.{Log, queryAt, inUse, judgeList, seen}
 use Rattle.paper.specs.Log as Log
 use Rattle.memory.specs.Words.{words}
 use Rattle.rank.specs.declared.Ranked.{Ranked}
@@ -41,7 +41,7 @@ module _ (s : List ℕ) (n : ℕ) where
     unfolding Log.listed
     listed-none log e = rw (judged log e) refl
 
-    listed-some : (log : Log) (q : Query) → queryAt log n ≡ some q → lines (ranking q (inForceNow log)) ≡ Log.listed 0 log (length s) 0 n
+    listed-some : (log : Log) (q : Query) → queryAt log n ≡ some q → lines (ranking q (seen log q)) ≡ Log.listed 0 log (length s) 0 n
     unfolding Log.listed
     listed-some log q e = rw (judged log (ap inUse e), e) refl
 
@@ -65,8 +65,8 @@ module _ (s : List ℕ) (n : ℕ) where
       unused e log r = used log (words s) n r h test ∙ e
 
       -- the list of the record is that of the log
-      held : {l : Ranked} (log : Log) (q : Query) → LoadedList (words s) n l → Holds (words s) n (oldestOf (words s)) (countOf (words s)) (inForceNow log) q
-          → (linesOf l ≡ lines (ranking q (inForceNow log))) × Tidy l
+      held : {l : Ranked} (log : Log) (q : Query) → LoadedList (words s) n l → Holds (words s) n (oldestOf (words s)) (countOf (words s)) (seen log q) q
+          → (linesOf l ≡ lines (ranking q (seen log q))) × Tidy l
       unfolding list
       held log q p k =
           let c = p .count-is (k .listed-most) in (
@@ -84,7 +84,7 @@ module _ (s : List ℕ) (n : ℕ) where
       }
         where
           go : (log : Log) (x : Option Query) → queryAt log n ≡ x → inUse (queryAt log n) ≡ true
-              → HoldsAt (words s) n (oldestOf (words s)) (countOf (words s)) (inForceNow log) x
+              → HoldsAt (words s) n (oldestOf (words s)) (countOf (words s)) (seen log) x
               → (0 ≡ judgeList 0 log (length s) 0 n) × (linesOf l ≡ Log.listed 0 log (length s) 0 n) × Tidy l
           go log none is u k = absurd (true≢false (sym u ∙ ap inUse is))
           go log (some q) is u k = let t = held log q p k in (sym (judged log u), t .0 ∙ listed-some log q is, t .1)

@@ -41,18 +41,20 @@ module _ {e : ℕ} {w v : List ℕ} (kept : Keeps (recordAt 0) e w v) where
       go true t = ap (λ (x : Slot). x ∷ []) (let l = ltb-true newest slots t in slot-kept kept newest (inl (omega arith)))
       go false t = refl
 
-  change-kept : {o d o′ s newest : ℕ} {ga sa ca : List Message} → Change w o d o′ s newest ga sa ca → Change v o d o′ s newest ga sa ca
+  change-kept : {o d o′ s newest : ℕ} {aa ga sa ca : List Message} → Change w o d o′ s newest aa ga sa ca → Change v o d o′ s newest aa ga sa ca
   change-kept {o} {d} {o′} {s} {newest} c = record {
     first-below = c .first-below;
     then-below = c .then-below;
     small = c .small;
     before = c .before;
     after = c .after;
+    split = c .split;
     gone = window-kept kept (inl (omega arith)) o d (c .first-below) ∙ c .gone;
     stay = window-kept kept (inl (omega arith)) o′ s (c .then-below) ∙ c .stay;
     come = arriving-kept newest ∙ c .come;
     apart = c .apart;
     valid = c .valid;
+    valid-new = c .valid-new;
   }
 
   has-kept : (set : List Bool) (j : ℕ) → j < slots → HasTerms w set j → HasTerms v set j
@@ -72,59 +74,59 @@ unfolding bitmap
 passed-none w = record {
   keeps = keeps-refl (recordAt 0) (recordAt 0) w;
   small = omega arith;
-  right = λ s ga sa ca qs change size valid holds. (λ q l. absurd (not-suc-le-zero l), refl, λ q l. absurd (not-suc-le-zero l));
+  right = λ s aa ga sa ca qs change size valid holds. (λ q l. absurd (not-suc-le-zero l), refl, λ q l. absurd (not-suc-le-zero l));
 }
 
 -- what one turn has to say of its record: `r` is whether the query is reached, and what is kept of it is right after the change
 abbrev Turned : List ℕ → ℕ → ℕ → ℕ → ℕ → ℕ → ℕ → Bool → List ℕ → Type 0
 Turned v q o d o′ count newest r v′ =
-    (s : ℕ) (ga sa ca : List Message) (x : Option Query) → ((y : Query) → x ≡ some y → Terms y) → Change v o d o′ s newest ga sa ca
-    → count ≡ s + length ca → HoldsAt v q o (d + s) (ga ++ sa) x → (r ≡ reachedIn v q x (ga ++ ca)) × HoldsAt v′ q o′ count (sa ++ ca) x
+    (s : ℕ) (aa ga sa ca : List Message) (x : Option Query) → ((y : Query) → x ≡ some y → Terms y) → Change v o d o′ s newest aa ga sa ca
+    → count ≡ s + length ca → HoldsAt v q o (d + s) (λ _. aa) x → (r ≡ reachedIn v q x (λ _. ga ++ ca)) × HoldsAt v′ q o′ count (λ _. sa ++ ca) x
 
 module _ (q : ℕ) (w v : List ℕ) {o d o′ count newest marks : ℕ} (below : q < numbers) (passed : Passed q w o d o′ count newest marks v) where
-  reached-same : (x : Option Query) (ms : List Message) → ((y : Query) → x ≡ some y → Terms y) → reachedIn v q x ms ≡ reachedIn w q x ms
+  reached-same : (x : Option Query) (ms : Query → List Message) → ((y : Query) → x ≡ some y → Terms y) → reachedIn v q x ms ≡ reachedIn w q x ms
   reached-same none ms t = refl
   reached-same (some y) ms t =
-      ap (λ (hs : List ℕ). reached (y .terms) hs ms)
+      ap (λ (hs : List ℕ). reached (y .terms) hs (ms y))
       (thresholds-same (passed .keeps) q (inr (omega arith)) (length (y .terms)) (t y refl .terms .at-most))
 
   -- one turn writes its own record only, and nothing where the record isn't reached
   module _ (v′ : List ℕ) (r : Bool) (here : Keeps (recordAt q) (recordAt (q + 1)) v v′) (same : r ≡ false → v′ ≡ v) (one : Turned v q o d o′ count newest r v′) where
-    module _ (s : ℕ) (ga sa ca : List Message) (qs : List (Option Query)) (change : Change w o d o′ s newest ga sa ca) (size : count ≡ s + length ca)
-        (valid : Queries qs) (holds : (p : ℕ) → p < numbers → HoldsAt w p o (d + s) (ga ++ sa) (getD qs p none)) where
+    module _ (s : ℕ) (aa ga sa ca : List Message) (qs : List (Option Query)) (change : Change w o d o′ s newest aa ga sa ca) (size : count ≡ s + length ca)
+        (valid : Queries qs) (holds : (p : ℕ) → p < numbers → HoldsAt w p o (d + s) (λ _. aa) (getD qs p none)) where
       terms : (p : ℕ) (y : Query) → getD qs p none ≡ some y → Terms y
       terms p y e = query-terms qs p y valid e
 
       -- the record stands as it did before the pass
-      held : HoldsAt v q o (d + s) (ga ++ sa) (getD qs q none)
+      held : HoldsAt v q o (d + s) (λ _. aa) (getD qs q none)
       held =
           holds-at-same (passed .keeps) q (inr (omega arith)) o (d + s) (change .first-below) (λ j l _. slot-kept (passed .keeps) j (inl (omega arith)))
-          (ga ++ sa) (getD qs q none) (terms q) (holds q below)
+          (λ _. aa) (getD qs q none) (terms q) (holds q below)
 
-      now : (r ≡ reachedIn w q (getD qs q none) (ga ++ ca)) × HoldsAt v′ q o′ count (sa ++ ca) (getD qs q none)
+      now : (r ≡ reachedIn w q (getD qs q none) (λ _. ga ++ ca)) × HoldsAt v′ q o′ count (λ _. sa ++ ca) (getD qs q none)
       now =
-          let t = one s ga sa ca (getD qs q none) (terms q) (change-kept (passed .keeps) change) size held in
-          (t .0 ∙ reached-same (getD qs q none) (ga ++ ca) (terms q), t .1)
+          let t = one s aa ga sa ca (getD qs q none) (terms q) (change-kept (passed .keeps) change) size held in
+          (t .0 ∙ reached-same (getD qs q none) (λ _. ga ++ ca) (terms q), t .1)
 
       -- the records before it stay
-      stay : (p : ℕ) → p < q → HoldsAt v′ p o′ count (sa ++ ca) (getD qs p none)
+      stay : (p : ℕ) → p < q → HoldsAt v′ p o′ count (λ _. sa ++ ca) (getD qs p none)
       stay p l =
           holds-at-same here p (inl (omega arith)) o′ count (change .then-below) (λ j k _. slot-kept here j (inl (omega arith)))
-          (sa ++ ca) (getD qs p none) (terms p) (passed .right s ga sa ca qs change size valid holds .0 p l)
+          (λ _. sa ++ ca) (getD qs p none) (terms p) (passed .right s aa ga sa ca qs change size valid holds .0 p l)
 
-      untouched : (p : ℕ) → p < q → reachedIn w p (getD qs p none) (ga ++ ca) ≡ false → SameRecord w v′ p
-      untouched p l u i k = here .below (recordAt p + i) (omega arith) ∙ passed .right s ga sa ca qs change size valid holds .2 p l u i k
+      untouched : (p : ℕ) → p < q → reachedIn w p (getD qs p none) (λ _. ga ++ ca) ≡ false → SameRecord w v′ p
+      untouched p l u i k = here .below (recordAt p + i) (omega arith) ∙ passed .right s aa ga sa ca qs change size valid holds .2 p l u i k
 
-      unreached : reachedIn w q (getD qs q none) (ga ++ ca) ≡ false → SameRecord w v′ q
+      unreached : reachedIn w q (getD qs q none) (λ _. ga ++ ca) ≡ false → SameRecord w v′ q
       unreached u i k = ap (λ (x : List ℕ). getD x (recordAt q + i) 0) (same (now .0 ∙ u)) ∙ passed .keeps .above (recordAt q + i) (omega arith)
 
-      all : ((p : ℕ) → p < q + 1 → HoldsAt v′ p o′ count (sa ++ ca) (getD qs p none))
-          × (marks + cond r (2 ^ q) 0 ≡ bitmap (λ p. reachedIn w p (getD qs p none) (ga ++ ca)) (q + 1))
-          × ((p : ℕ) → p < q + 1 → reachedIn w p (getD qs p none) (ga ++ ca) ≡ false → SameRecord w v′ p)
+      all : ((p : ℕ) → p < q + 1 → HoldsAt v′ p o′ count (λ _. sa ++ ca) (getD qs p none))
+          × (marks + cond r (2 ^ q) 0 ≡ bitmap (λ p. reachedIn w p (getD qs p none) (λ _. ga ++ ca)) (q + 1))
+          × ((p : ℕ) → p < q + 1 → reachedIn w p (getD qs p none) (λ _. ga ++ ca) ≡ false → SameRecord w v′ p)
       all = (
-        below-more (λ p. HoldsAt v′ p o′ count (sa ++ ca) (getD qs p none)) q stay (now .1),
-        bitmap-next (λ p. reachedIn w p (getD qs p none) (ga ++ ca)) q (now .0) (passed .right s ga sa ca qs change size valid holds .1),
-        below-more (λ p. reachedIn w p (getD qs p none) (ga ++ ca) ≡ false → SameRecord w v′ p) q untouched unreached,
+        below-more (λ p. HoldsAt v′ p o′ count (λ _. sa ++ ca) (getD qs p none)) q stay (now .1),
+        bitmap-next (λ p. reachedIn w p (getD qs p none) (λ _. ga ++ ca)) q (now .0) (passed .right s aa ga sa ca qs change size valid holds .1),
+        below-more (λ p. reachedIn w p (getD qs p none) (λ _. ga ++ ca) ≡ false → SameRecord w v′ p) q untouched unreached,
       )
 
     turn : Passed (q + 1) w o d o′ count newest (marks + cond r (2 ^ q) 0) v′
@@ -140,8 +142,8 @@ module _ (q : ℕ) (w v : List ℕ) {o d o′ count newest marks : ℕ} (below :
     turn-unused e same more = rw (same, more, ← add-zero marks) (turn v false (keeps-refl (recordAt q) (recordAt (q + 1)) v) (λ _. refl) one)
       where
         one : Turned v q o d o′ count newest false v
-        one s ga sa ca none t c size h = (refl, h)
-        one s ga sa ca (some y) t c size h = absurd (true≢false (sym (in-use-is v q o (d + s) (ga ++ sa) (some y) t h) ∙ sym test ∙ e))
+        one s aa ga sa ca none t c size h = (refl, h)
+        one s aa ga sa ca (some y) t c size h = absurd (true≢false (sym (in-use-is v q o (d + s) (λ _. aa) (some y) t h) ∙ sym test ∙ e))
 
     -- the query that is registered is updated
     module _ (e : b ≡ true) {u : List ℕ} {r : Bool} {set : List Bool} (covers : Covers w o d newest set) (updated : Updated v q o d o′ count newest set r u) where
@@ -149,8 +151,8 @@ module _ (q : ℕ) (w v : List ℕ) {o d o′ count newest marks : ℕ} (below :
       turn-used = turn u r (keeps-wider (omega arith) (omega arith) (updated .keeps)) (updated .untouched) one
         where
           one : Turned v q o d o′ count newest r u
-          one s ga sa ca none t c size h = absurd (false≢true (sym (in-use-is v q o (d + s) (ga ++ sa) none t h) ∙ sym test ∙ e))
-          one s ga sa ca (some y) t c size h = updated .right s ga sa ca y (covers-kept (passed .keeps) (c .first-below) covers) c size (t y refl) h
+          one s aa ga sa ca none t c size h = absurd (false≢true (sym (in-use-is v q o (d + s) (λ _. aa) none t h) ∙ sym test ∙ e))
+          one s aa ga sa ca (some y) t c size h = updated .right s aa ga sa ca y (covers-kept (passed .keeps) (c .first-below) covers) c size (t y refl) h
 
       pub turn-unreached : r ≡ false → {v′ : List ℕ} {marks′ : ℕ} → v′ ≡ u → marks′ ≡ marks → Passed (q + 1) w o d o′ count newest marks′ v′
       turn-unreached k same more = rw (same, more) (rw (k, add-zero) at turn-used)

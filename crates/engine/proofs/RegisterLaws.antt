@@ -5,7 +5,7 @@ use native.Mathlib.Omega.{arith}
 use mathlib.Core.Path.{_≡_, refl, sym, ap, ap₂, _∙_, subst, subst₂}
 use mathlib.Core.Bool.{Bool, true, false, _||_}
 use mathlib.Core.Logic.{inl}
-use mathlib.Core.List.{List, [], _++_, map}
+use mathlib.Core.List.{List, map}
 use mathlib.Core.Option.{Option, none, some}
 use lib.ListN.{length, getD, set, length-set}
 use lib.Seq.{getD-set-same, getD-set-other}
@@ -16,7 +16,7 @@ use Rattle.paper.specs.Frame.Frame.{tick, register, unregister}
 use Rattle.paper.specs.Rank.{Query}
 use Rattle.paper.specs.Window.{Message}
 use Rattle.paper.specs.Layout.{slots, recordAt, recordWords, oldestAt, countAt, clockAt}
-use Rattle.paper.specs.Log.{Log, queryAt, inForceNow, judgeFrame, accept, departs}
+use Rattle.paper.specs.Log.{Log, queryAt, inForceNow, judgeFrame, accept, departs, seen, movedFor}
 use Rattle.paper.specs.Sound.{Sound, Terms}
 use Rattle.paper.specs.Demand3.{reachedBy, marked, bitmap}
 use Rattle.paper.proofs.Tests.{or-false}
@@ -52,10 +52,10 @@ module _ (p : ℕ) (w w′ : List ℕ) (keeps : Keeps (recordAt p) (recordAt p +
   every-slot j h = slot-kept keeps j (inl (omega arith))
 
   -- memory holds a log that differs in that query alone
-  one-record : (log log′ : Log) → Represents log w → log′ .N ≡ log .N → log′ .T ≡ log .T → log′ .clock ≡ log .clock → inForceNow log′ ≡ inForceNow log → Sound log′
-      → ((q : ℕ) → (p ≡ q → ⊥) → queryAt log′ q ≡ queryAt log q)
-      → HoldsAt w′ p (oldestOf w) (countOf w) (inForceNow log) (queryAt log′ p) → Represents log′ w′
-  one-record log log′ r eN eT ec ef sound rest new =
+  one-record : (log log′ : Log) → Represents log w → log′ .N ≡ log .N → log′ .T ≡ log .T → log′ .clock ≡ log .clock → inForceNow log′ ≡ inForceNow log
+      → seen log′ ≡ seen log → Sound log′ → ((q : ℕ) → (p ≡ q → ⊥) → queryAt log′ q ≡ queryAt log q)
+      → HoldsAt w′ p (oldestOf w) (countOf w) (seen log) (queryAt log′ p) → Represents log′ w′
+  one-record log log′ r eN eT ec ef es sound rest new =
       let at : oldestOf w′ ≡ oldestOf w = header oldestAt (omega arith) in
       let many : countOf w′ ≡ countOf w = header countAt (omega arith) in
       record {
@@ -69,17 +69,17 @@ module _ (p : ℕ) (w w′ : List ℕ) (keeps : Keeps (recordAt p) (recordAt p +
         shows = ap₂ (window w′) at many ∙ window-kept keeps (inl (omega arith)) (oldestOf w) (countOf w) (r .oldest-below) ∙ r .shows ∙ ap (map stored) (sym ef);
         sound = sound;
         records = λ q h.
-            subst₂ (λ (a b : ℕ). HoldsAt w′ q a b (inForceNow log′) (queryAt log′ q)) (sym at) (sym many)
-            (subst (λ (ms : List Message). HoldsAt w′ q (oldestOf w) (countOf w) ms (queryAt log′ q)) (sym ef) (each q h (eqb p q) refl));
+            subst₂ (λ (a b : ℕ). HoldsAt w′ q a b (seen log′) (queryAt log′ q)) (sym at) (sym many)
+            (subst (λ (ms : Query → List Message). HoldsAt w′ q (oldestOf w) (countOf w) ms (queryAt log′ q)) (sym es) (each q h (eqb p q) refl));
       }
     where
-      each : (q : ℕ) → q < numbers → (b : Bool) → eqb p q ≡ b → HoldsAt w′ q (oldestOf w) (countOf w) (inForceNow log) (queryAt log′ q)
+      each : (q : ℕ) → q < numbers → (b : Bool) → eqb p q ≡ b → HoldsAt w′ q (oldestOf w) (countOf w) (seen log) (queryAt log′ q)
       each q h true e =
-          subst (λ (x : ℕ). HoldsAt w′ x (oldestOf w) (countOf w) (inForceNow log) (queryAt log′ x)) (eqb-true p q e) new
+          subst (λ (x : ℕ). HoldsAt w′ x (oldestOf w) (countOf w) (seen log) (queryAt log′ x)) (eqb-true p q e) new
       each q h false e =
-          subst (HoldsAt w′ q (oldestOf w) (countOf w) (inForceNow log)) (sym (rest q (eqb-false p q e)))
+          subst (HoldsAt w′ q (oldestOf w) (countOf w) (seen log)) (sym (rest q (eqb-false p q e)))
           (holds-still w w′ q (keeps .long) (other-record q (eqb-false p q e)) (oldestOf w) (countOf w) (r .oldest-below) (let l = r .count-below in omega arith)
-          (λ j l i. every-slot j l) (inForceNow log) (queryAt log q)
+          (λ j l i. every-slot j l) (seen log) (queryAt log q)
           (λ y z. query-terms (log .queries) q y (r .sound .queries) z .terms .at-most) (r .records q h))
 
 -- ---- a query registered
@@ -97,7 +97,7 @@ module _ (t p k : ℕ) (ps : List Pair) (log : Log) (w w₁ w₂ : List ℕ) (r 
 
   pub registered-accepted : Registered w₁ p (oldestOf w₁) (countOf w₁) new w₂ → reply .marks ≡ (ticked .marks + 2 ^ p) % 2 ^ 32 → reply .departures ≡ ticked .departures
       → Accepted log (register t p k ps) w reply w₂
-  unfolding accept marked departs
+  unfolding accept marked departs movedFor seen
   registered-accepted g em ed =
       let h = a .holds in
       let over : Over w₁ (oldestOf w₁) (countOf w₁) (inForceNow (accept log (tick t))) =
@@ -108,9 +108,9 @@ module _ (t p k : ℕ) (ps : List Pair) (log : Log) (w w₁ w₂ : List ℕ) (r 
       let fits : ticked .marks + 2 ^ p < 2 ^ 32 = let s = bitmap-small (λ q. eqb p q || marked log (keeping w) (tick t) q) numbers in omega arith in
       record {
         holds =
-            one-record p w₁ w₂ (g .keeps) (accept log (tick t)) (accept log (register t p k ps)) h refl refl refl refl (accept-sound log (register t p k ps) (r .sound) v ok)
+            one-record p w₁ w₂ (g .keeps) (accept log (tick t)) (accept log (register t p k ps)) h refl refl refl refl refl (accept-sound log (register t p k ps) (r .sound) v ok)
             (λ q ne. getD-set-other (log .queries) p q (some new) none (λ e. ne (sym e)))
-            (subst (HoldsAt w₂ p (oldestOf w₁) (countOf w₁) (inForceNow (accept log (tick t))))
+            (subst (HoldsAt w₂ p (oldestOf w₁) (countOf w₁) (seen (accept log (tick t))))
             (sym (getD-set-same (log .queries) p (some new) none (let l = r .sound .numbered in let b = below in omega arith)))
             (g .right (inForceNow (accept log (tick t))) over terms));
         marks = em ∙ mod-eq-of-lt fits ∙ sym more;
@@ -148,18 +148,19 @@ module _ (t p : ℕ) (log : Log) (w w₁ w₂ : List ℕ) (r : Represents log w)
   others q ne = getD-set-other (log .queries) p q none none (λ e. ne (sym e))
 
   pub without-held : Represents without w₁
+  unfolding seen
   without-held =
-      one-record p w w₁ (c .keeps) log without r refl refl refl refl without-sound others
-      (subst (HoldsAt w₁ p (oldestOf w) (countOf w) (inForceNow log)) (sym empty) (c .zero))
+      one-record p w w₁ (c .keeps) log without r refl refl refl refl refl without-sound others
+      (subst (HoldsAt w₁ p (oldestOf w) (countOf w) (seen log)) (sym empty) (c .zero))
 
   module _ (ticked reply : Reply) (a : Accepted without (tick t) w₁ ticked w₂) where
     -- another query is reached as it was
     same-marks : (q : ℕ) → q < numbers → marked log (keeping w) (unregister t p) q ≡ (eqb p q || marked without (keeping w₁) (tick t) q)
-    unfolding marked departs
+    unfolding marked departs movedFor
     same-marks q h = go (eqb p q) refl
       where
-        gone : List Message
-        gone = departs log (tick t) ++ []
+        gone : Query → List Message
+        gone = movedFor log (tick t)
 
         few : (x : Option Query) → queryAt log q ≡ x → (y : Query) → x ≡ some y → length (y .terms) ≤ 8
         few x e y z = query-terms (log .queries) q y (r .sound .queries) (e ∙ z) .terms .at-most

@@ -12,7 +12,7 @@ use Rattle.paper.specs.Frame.{numbers}
 use Rattle.paper.specs.Rank.{Query}
 use Rattle.paper.specs.Window.{Message}
 use Rattle.paper.specs.Layout.{recordAt}
-use Rattle.paper.specs.Log.{Log, queryAt, inUse, inForceNow}
+use Rattle.paper.specs.Log.{Log, queryAt, inUse, seen}
 use Rattle.paper.specs.Sound.{Terms, Queries}
 use Rattle.paper.specs.Demand3.{SettledAt, AllSettled, reachedBy}
 use Rattle.query.specs.Record.{keptOf, Holds, HoldsAt}
@@ -28,7 +28,7 @@ query-terms (some x ∷ qs) zero q v e = let s : x ≡ q = cc in subst Terms s (
 query-terms (none ∷ qs) (suc n) q v e = query-terms qs n q v e
 query-terms (some x ∷ qs) (suc n) q v e = query-terms qs n q (v .1) e
 
-module _ (w : List ℕ) (q : ℕ) (ms : List Message) where
+module _ (w : List ℕ) (q : ℕ) (ms : Query → List Message) where
   -- whether the record is in use is whether it starts with 0
   first-is : (x : Option Query) → ((y : Query) → x ≡ some y → Terms y) → HoldsAt w q (oldestOf w) (countOf w) ms x
       → not (eqb (getD w (recordAt q) 0) 0) ≡ inUse x
@@ -38,7 +38,7 @@ module _ (w : List ℕ) (q : ℕ) (ms : List Message) where
   unfolding keeping
   kept-none h = rw (not-false (eqb (getD w (recordAt q) 0) 0) (first-is none (λ y e. let z : _≡_ {A = ℕ} 0 1 = cc in absurd (omega arith)) h))
 
-  pub kept-some : (x : Query) → Terms x → Holds w q (oldestOf w) (countOf w) ms x
+  pub kept-some : (x : Query) → Terms x → Holds w q (oldestOf w) (countOf w) (ms x) x
       → keeping w q ≡ some (keptOf w q (oldestOf w) (countOf w) (length (x .terms)))
   unfolding keeping
   kept-some x t h =
@@ -49,7 +49,7 @@ module _ (w : List ℕ) (q : ℕ) (ms : List Message) where
   settled-at (some x) t h = rw (kept-some x (t x refl) h) (h .settled)
 
   -- reached by the thresholds that are kept
-  reached-at : (x : Option Query) (moved : List Message) → ((y : Query) → x ≡ some y → Terms y) → HoldsAt w q (oldestOf w) (countOf w) ms x
+  reached-at : (x : Option Query) (moved : Query → List Message) → ((y : Query) → x ≡ some y → Terms y) → HoldsAt w q (oldestOf w) (countOf w) ms x
       → reachedBy x (keeping w q) moved ≡ reachedIn w q x moved
   reached-at none moved t h = refl
   reached-at (some x) moved t h = rw (kept-some x (t x refl) h)
@@ -57,14 +57,14 @@ module _ (w : List ℕ) (q : ℕ) (ms : List Message) where
 -- memory that holds a log keeps each query as demanded
 pub all-settled : (log : Log) (w : List ℕ) → Represents log w → AllSettled log (keeping w)
 all-settled log w r q h =
-    settled-at w q (inForceNow log) (queryAt log q) (λ y e. query-terms (log .queries) q y (r .sound .queries) e) (r .records q h)
+    settled-at w q (seen log) (queryAt log q) (λ y e. query-terms (log .queries) q y (r .sound .queries) e) (r .records q h)
 
-pub reached-by : (log : Log) (w : List ℕ) (q : ℕ) (moved : List Message) → Represents log w → q < numbers
+pub reached-by : (log : Log) (w : List ℕ) (q : ℕ) (moved : Query → List Message) → Represents log w → q < numbers
     → reachedBy (queryAt log q) (keeping w q) moved ≡ reachedIn w q (queryAt log q) moved
 reached-by log w q moved r h =
-    reached-at w q (inForceNow log) (queryAt log q) moved (λ y e. query-terms (log .queries) q y (r .sound .queries) e) (r .records q h)
+    reached-at w q (seen log) (queryAt log q) moved (λ y e. query-terms (log .queries) q y (r .sound .queries) e) (r .records q h)
 
 -- a number is in use as its record says
 pub used : (log : Log) (w : List ℕ) (q : ℕ) {b : Bool} → Represents log w → q < numbers → b ≡ not (eqb (getD w (recordAt q) 0) 0) → inUse (queryAt log q) ≡ b
 used log w q r h test =
-    sym (first-is w q (inForceNow log) (queryAt log q) (λ y e. query-terms (log .queries) q y (r .sound .queries) e) (r .records q h)) ∙ sym test
+    sym (first-is w q (seen log) (queryAt log q) (λ y e. query-terms (log .queries) q y (r .sound .queries) e) (r .records q h)) ∙ sym test

@@ -118,7 +118,7 @@ module _ (w w′ : List ℕ) (q : ℕ) (long : length w′ ≡ length w) (same :
     same-flag qs m h j l false e = refl
 
     -- a record that holds what it should still does
-    pub holds-still : (ms : List Message) (x : Option Query) → ((y : Query) → x ≡ some y → length (y .terms) ≤ 8) → HoldsAt w q o n ms x → HoldsAt w′ q o n ms x
+    pub holds-still : (ms : Query → List Message) (x : Option Query) → ((y : Query) → x ≡ some y → length (y .terms) ≤ 8) → HoldsAt w q o n ms x → HoldsAt w′ q o n ms x
     holds-still ms none t h = λ i l. same i l ∙ h i l
     holds-still ms (some x) t h =
         let m = length (x .terms) in
@@ -129,7 +129,7 @@ module _ (w w′ : List ℕ) (q : ℕ) (long : length w′ ≡ length w) (same :
             size = same sizeOffset (omega arith) ∙ h .says .size;
             pairs = λ i l. word-same pairsOffset i (omega arith) ∙ h .says .pairs i l;
           };
-          settled = subst (Settled x ms) (sym (same-kept-of m few)) (h .settled);
+          settled = subst (Settled x (ms x)) (sym (same-kept-of m few)) (h .settled);
           flagged = λ j l. ap (λ (fs : List ℕ). flagOf fs j) same-flags ∙ h .flagged j l ∙ sym (same-flag (x .terms) m few j l (inRing o n j) refl);
           no-threshold = λ i l u. word-same thresholdsOffset i (omega arith) ∙ h .no-threshold i l u;
           listed-most = let e = same listedOffset (omega arith) in let l = h .listed-most in omega arith;

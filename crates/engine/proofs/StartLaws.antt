@@ -10,7 +10,7 @@ use lib.Seq.{getD-set-same, getD-set-other, drop-length}
 use lib.Dec.{eqb, leb, ltb}
 use borrow.Author.Tests.{ltb-true, leb-true, eq-eqb, ne-eqb}
 use Rattle.paper.specs.Frame.{numbers}
-use Rattle.paper.specs.Log.{fresh, inForceNow, judgeStart, inRanges}
+use Rattle.paper.specs.Log.{fresh, inForceNow, judgeStart, inRanges, seen}
 use Rattle.paper.specs.Rank.{Query}
 use Rattle.paper.specs.Window.{inForce, mostMessages, longestLife}
 use Rattle.paper.specs.Layout.{stateLength, recordAt, stateWords, capacityAt, lifeAt, clockAt, oldestAt, countAt}
@@ -72,7 +72,7 @@ module _ (N T : ℕ) (N-least : 1 ≤ N) (N-most : N ≤ mostMessages) (T-least 
   unfolding ring inForce
   empty-window w o n e = rw e
 
-  empty-record : (q : ℕ) → HoldsAt after q (oldestOf after) (countOf after) (inForceNow (fresh N T)) none
+  empty-record : (q : ℕ) → HoldsAt after q (oldestOf after) (countOf after) (seen (fresh N T)) none
   empty-record q i h = rest (recordAt q + i) (omega arith)
 
   held : Represents (fresh N T) after
@@ -89,7 +89,7 @@ module _ (N T : ℕ) (N-least : 1 ≤ N) (N-most : N ≤ mostMessages) (T-least 
         count-below = let e = rest countAt (omega arith) in omega arith;
         shows = empty-window after (oldestOf after) (countOf after) (rest countAt (omega arith));
         sound = fresh-sound N T N-least T-least;
-        records = λ q h. subst (HoldsAt after q (oldestOf after) (countOf after) (inForceNow (fresh N T))) (sym (none-at numbers q)) (empty-record q);
+        records = λ q h. subst (HoldsAt after q (oldestOf after) (countOf after) (seen (fresh N T))) (sym (none-at numbers q)) (empty-record q);
       }
 
   fresh-held : Represents (fresh N T) (words (freshMemory N T))

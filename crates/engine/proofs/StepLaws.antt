@@ -13,10 +13,11 @@ use Rattle.paper.specs.Frame.{Frame, Valid, numbers}
 use Rattle.paper.specs.Rank.{Query}
 use Rattle.paper.specs.Window.{Message}
 use Rattle.paper.specs.Layout.{slots, clockAt, oldestAt, countAt, recordAt}
-use Rattle.paper.specs.Log.{Log, queryAt, inForceNow, timeOf, judgeFrame, arrivals, accept, departs}
-use Rattle.paper.specs.Sound.{Messages}
+use Rattle.paper.specs.Log.{Log, queryAt, inForceNow, timeOf, judgeFrame, arrivals, accept, departs, seen, stays, movedFor}
+use Rattle.paper.specs.Order.{Split}
 use Rattle.paper.specs.Demand3.{marked, bitmap, names}
-use Rattle.paper.proofs.LogLaws.{stays, in-force-before, in-force-after, accept-sound, messages-parts, messages-append, in-force-valid}
+use Rattle.paper.proofs.LogLaws.{in-force-before, in-force-after, accept-sound, in-force-valid, departs-first, arrivals-valid}
+use Rattle.paper.proofs.SortLaws.{split-first}
 use Rattle.window.specs.Slot.{Slot, slot, stored, ring, window}
 use Rattle.window.specs.Cursor.{Moved}
 use Rattle.window.proofs.RingLaws.{ring-length, moved-below, moved-parts}
@@ -68,7 +69,7 @@ module _ (log : Log) (f : Frame) (w : List ℕ) (r : Represents log w) (v : Vali
       (sym (map-append (slot w) (ring (oldestOf w) (countOf w - n′)) (ring o′ n′))
       ∙ ap (map (slot w)) (sym (moved-parts (r .oldest-below) moved))
       ∙ r .shows
-      ∙ ap (map stored) (in-force-before log f (r .sound) ok)
+      ∙ ap (map stored) (departs-first log f (r .sound) ok)
       ∙ map-append stored (departs log f) (stays log f))
       left
 
@@ -80,44 +81,42 @@ module _ (log : Log) (f : Frame) (w : List ℕ) (r : Represents log w) (v : Vali
       ∙ ap length gone
       ∙ length-map (departs log f) stored
 
-  valid : Messages (departs log f ++ (stays log f ++ arrivals f))
-  valid =
-      let before : Messages (departs log f ++ stays log f) = subst Messages (in-force-before log f (r .sound) ok) (in-force-valid log (r .sound)) in
-      let after : Messages (stays log f ++ arrivals f) =
-      subst Messages (in-force-after log f (r .sound)) (in-force-valid (accept log f) (accept-sound log f (r .sound) v ok)) in
-      messages-append (departs log f) (stays log f ++ arrivals f) (messages-parts (departs log f) (stays log f) before .0) after
-
   module _ (newest : ℕ) (w₂ : List ℕ) (p : Prepared f w (oldestOf w) (countOf w) o′ n′ newest w₂) where
     all : countOf w - n′ + n′ ≡ countOf w
     all = let c = moved .count-most in omega arith
 
     -- the window changes as the log's does
-    change : Change w₂ (oldestOf w) (countOf w - n′) o′ n′ newest (departs log f) (stays log f) (arrivals f)
+    change : Change w₂ (oldestOf w) (countOf w - n′) o′ n′ newest (inForceNow log) (departs log f) (stays log f) (arrivals f)
     change = record {
       first-below = r .oldest-below;
       then-below = moved-below (r .oldest-below) moved;
       small = let e = all in let c = r .count-below in omega arith;
-      before = ap (ring (oldestOf w)) all ∙ moved-parts (r .oldest-below) moved;
+      before =
+          subst (λ (js : List ℕ). Split js (ring (oldestOf w) (countOf w - n′)) (ring o′ n′)) (sym (ap (ring (oldestOf w)) all ∙ moved-parts (r .oldest-below) moved))
+          (split-first (ring (oldestOf w) (countOf w - n′)) (ring o′ n′));
       after = p .after;
+      split = in-force-before log f (r .sound) ok;
       gone = p .gone-same ∙ gone;
       stay = p .left-same ∙ left;
       come = p .come;
       apart = λ h. ap (λ (k : ℕ). inRing (oldestOf w) k newest) all ∙ p .apart h;
-      valid = valid;
+      valid = in-force-valid log (r .sound);
+      valid-new = arrivals-valid f v;
     }
 
     few : (q : ℕ) (y : Query) → queryAt log q ≡ some y → length (y .terms) ≤ 8
     few q y e = query-terms (log .queries) q y (r .sound .queries) e .terms .at-most
 
     -- the records are as they were
-    before-holds : (q : ℕ) → q < numbers → HoldsAt w₂ q (oldestOf w) (countOf w - n′ + n′) (departs log f ++ stays log f) (queryAt log q)
+    before-holds : (q : ℕ) → q < numbers → HoldsAt w₂ q (oldestOf w) (countOf w - n′ + n′) (λ _. inForceNow log) (queryAt log q)
+    unfolding seen
     before-holds q h =
-        subst₂ (λ (k : ℕ) (ms : List Message). HoldsAt w₂ q (oldestOf w) k ms (queryAt log q)) (sym all) (in-force-before log f (r .sound) ok)
+        subst (λ (k : ℕ). HoldsAt w₂ q (oldestOf w) k (seen log) (queryAt log q)) (sym all)
         (holds-still w w₂ q (p .long) (p .records q h) (oldestOf w) (countOf w) (r .oldest-below) (let c = r .count-below in omega arith) (p .slots-same)
-        (inForceNow log) (queryAt log q) (few q) (r .records q h))
+        (seen log) (queryAt log q) (few q) (r .records q h))
 
     -- the thresholds too
-    reached-same : (q : ℕ) → q < numbers → (x : Option Query) → ((y : Query) → x ≡ some y → length (y .terms) ≤ 8) → (ms : List Message)
+    reached-same : (q : ℕ) → q < numbers → (x : Option Query) → ((y : Query) → x ≡ some y → length (y .terms) ≤ 8) → (ms : Query → List Message)
         → reachedIn w₂ q x ms ≡ reachedIn w q x ms
     reached-same q h none t ms = refl
     reached-same q h (some x) t ms = rw (same-thresholds w w₂ q (p .long) (p .records q h) (length (x .terms)) (t x refl))
@@ -125,20 +124,18 @@ module _ (log : Log) (f : Frame) (w : List ℕ) (r : Represents log w) (v : Vali
     module _ (marks : ℕ) (w₃ : List ℕ)
         (passed : Passed numbers w₂ (oldestOf w) (countOf w - n′) o′ (n′ + length (arrivals f)) newest marks w₃)
         (stable : (q : ℕ) → (queryAt (accept log f) q ≡ queryAt log q) × (names f q ≡ false)) where
-      movers : List Message
-      movers = departs log f ++ arrivals f
-
-      done : ((q : ℕ) → q < numbers → HoldsAt w₃ q o′ (n′ + length (arrivals f)) (stays log f ++ arrivals f) (queryAt log q))
-          × (marks ≡ bitmap (λ q. reachedIn w₂ q (queryAt log q) (departs log f ++ arrivals f)) numbers)
-          × ((q : ℕ) → q < numbers → reachedIn w₂ q (queryAt log q) (departs log f ++ arrivals f) ≡ false → SameRecord w₂ w₃ q)
-      done = passed .right n′ (departs log f) (stays log f) (arrivals f) (log .queries) change refl (r .sound .queries) before-holds
+      done : ((q : ℕ) → q < numbers → HoldsAt w₃ q o′ (n′ + length (arrivals f)) (λ _. stays log f ++ arrivals f) (queryAt log q))
+          × (marks ≡ bitmap (λ q. reachedIn w₂ q (queryAt log q) (movedFor log f)) numbers)
+          × ((q : ℕ) → q < numbers → reachedIn w₂ q (queryAt log q) (movedFor log f) ≡ false → SameRecord w₂ w₃ q)
+      unfolding movedFor
+      done = passed .right n′ (inForceNow log) (departs log f) (stays log f) (arrivals f) (log .queries) change refl (r .sound .queries) before-holds
 
       header : (i : ℕ) → i < recordAt 0 → getD w₃ i 0 ≡ getD w₂ i 0
       header i h = passed .keeps .below i h
 
       -- memory holds the log after the frame
       held : Represents (accept log f) w₃
-      unfolding accept
+      unfolding accept seen
       held =
           let at : oldestOf w₃ ≡ o′ = header oldestAt (omega arith) ∙ p .oldest in
           let many : countOf w₃ ≡ n′ + length (arrivals f) = header countAt (omega arith) ∙ p .count in
@@ -149,7 +146,7 @@ module _ (log : Log) (f : Frame) (w : List ℕ) (r : Represents log w) (v : Vali
           ∙ map-append (slot w₂) (ring o′ n′) (arriving newest)
           ∙ ap₂ (λ (a b : List Slot). a ++ b) (p .left-same ∙ left) (p .come)
           ∙ sym (map-append stored (stays log f) (arrivals f))
-          ∙ ap (map stored) (sym (in-force-after log f (r .sound))) in
+          ∙ ap (map stored) (sym (in-force-after log f (r .sound) ok)) in
           record {
             long = passed .keeps .long ∙ p .long ∙ r .long;
             capacity = header 0 (omega arith) ∙ p .capacity ∙ r .capacity;
@@ -161,22 +158,20 @@ module _ (log : Log) (f : Frame) (w : List ℕ) (r : Represents log w) (v : Vali
             shows = ap₂ (window w₃) at many ∙ shown;
             sound = accept-sound log f (r .sound) v ok;
             records = λ q h.
-                subst₂ (λ (a b : ℕ). HoldsAt w₃ q a b (inForceNow (accept log f)) (queryAt (accept log f) q)) (sym at) (sym many)
-                (subst₂ (HoldsAt w₃ q o′ (n′ + length (arrivals f))) (sym (in-force-after log f (r .sound))) (sym (stable q .0)) (done .0 q h));
+                subst₂ (λ (a b : ℕ). HoldsAt w₃ q a b (seen (accept log f)) (queryAt (accept log f) q)) (sym at) (sym many)
+                (subst₂ (λ (ms : List Message). HoldsAt w₃ q o′ (n′ + length (arrivals f)) (λ _. ms)) (sym (in-force-after log f (r .sound) ok)) (sym (stable q .0)) (done .0 q h));
           }
 
       -- a query is marked where the frame reaches it
-      marks-are : (q : ℕ) → q < numbers → marked log (keeping w) f q ≡ reachedIn w₂ q (queryAt log q) movers
-      unfolding marked movers
-      marks-are q h =
-          rw (stable q .1) (reached-by log w q (departs log f ++ arrivals f) r h ∙ sym (reached-same q h (queryAt log q) (few q) (departs log f ++ arrivals f)))
+      marks-are : (q : ℕ) → q < numbers → marked log (keeping w) f q ≡ reachedIn w₂ q (queryAt log q) (movedFor log f)
+      unfolding marked
+      marks-are q h = rw (stable q .1) (reached-by log w q (movedFor log f) r h ∙ sym (reached-same q h (queryAt log q) (few q) (movedFor log f)))
 
       -- the frame is taken in
       pub taken-in : (reply : Reply) → reply .marks ≡ marks → reply .departures ≡ countOf w - n′ → Accepted log f w reply w₃
-      unfolding movers
       taken-in reply em ed = record {
         holds = held;
-        marks = em ∙ done .1 ∙ sym (bitmap-same (marked log (keeping w) f) (λ q. reachedIn w₂ q (queryAt log q) (departs log f ++ arrivals f)) numbers marks-are);
+        marks = em ∙ done .1 ∙ sym (bitmap-same (marked log (keeping w) f) (λ q. reachedIn w₂ q (queryAt log q) (movedFor log f)) numbers marks-are);
         departures = ed ∙ departed;
         untouched = λ q h e i l. done .2 q h (sym (marks-are q h) ∙ e) i l ∙ p .records q h i l;
       }

@@ -2,7 +2,7 @@
 use Prim.Native.Nat.{ℕ, _<_}
 use mathlib.Core.Path.{_≡_, refl, sym, ap, _∙_, subst}
 use mathlib.Core.Bool.{false}
-use mathlib.Core.List.{List, _++_}
+use mathlib.Core.List.{List}
 use mathlib.Core.Option.{Option, none, some}
 use lib.ListN.{length}
 use lib.Seq.{getD-set-other}
@@ -11,12 +11,12 @@ use Rattle.paper.specs.Frame.{Frame, numbers}
 use Rattle.paper.specs.Frame.Frame.{message, tick, register, unregister}
 use Rattle.paper.specs.Rank.{Query, serials}
 use Rattle.paper.specs.Window.{Message}
-use Rattle.paper.specs.Threshold.{candidates}
-use Rattle.paper.specs.Log.{Log, queryAt, inForceNow, accept, judgeFrame, departs, arrivals}
+use Rattle.paper.specs.Threshold.{candidates, reached}
+use Rattle.paper.specs.Log.{Log, queryAt, accept, judgeFrame, seen, movedFor}
 use Rattle.paper.specs.Sound.{Terms}
 use Rattle.paper.specs.Demand3.{names, reachedBy, marked}
 use Rattle.paper.proofs.Tests.{or-false}
-use Rattle.paper.proofs.LogLaws.{stays, in-force-before, in-force-after}
+use Rattle.paper.proofs.LogLaws.{sees}
 use Rattle.paper.proofs.ThresholdLaws.{same-candidates}
 use Rattle.query.specs.Record.{keptOf, thresholds, list, Holds, HoldsAt}
 use Rattle.engine.specs.Represents.{oldestOf, countOf, Represents, keeping}
@@ -52,27 +52,24 @@ pub unmarked-kept : (log : Log) (f : Frame) (w w′ : List ℕ) (q : ℕ) → Re
 unfolding marked
 unmarked-kept log f w w′ q r r′ ok h e same =
     go (queryAt log q) refl (r .records q h) (subst (HoldsAt w′ q (oldestOf w′) (countOf w′) ms′) (query-stays log f q (parts .0)) (r′ .records q h))
-    (sym (reached-by log w q (departs log f ++ arrivals f) r h) ∙ parts .1)
+    (sym (reached-by log w q (movedFor log f) r h) ∙ parts .1)
   where
-    movers : List Message
-    movers = departs log f ++ arrivals f
+    parts : (names f q ≡ false) × (reachedBy (queryAt log q) (keeping w q) (movedFor log f) ≡ false)
+    parts = or-false (names f q) (reachedBy (queryAt log q) (keeping w q) (movedFor log f)) e
 
-    parts : (names f q ≡ false) × (reachedBy (queryAt log q) (keeping w q) movers ≡ false)
-    parts = or-false (names f q) (reachedBy (queryAt log q) (keeping w q) movers) e
+    ms′ : Query → List Message
+    ms′ = seen (accept log f)
 
-    ms′ : List Message
-    ms′ = inForceNow (accept log f)
-
-    go : (x : Option Query) → queryAt log q ≡ x → HoldsAt w q (oldestOf w) (countOf w) (inForceNow log) x → HoldsAt w′ q (oldestOf w′) (countOf w′) ms′ x
-        → reachedIn w q x (departs log f ++ arrivals f) ≡ false → keeping w′ q ≡ keeping w q
-    go none y a b u = kept-none w′ q ms′ b ∙ sym (kept-none w q (inForceNow log) a)
+    go : (x : Option Query) → queryAt log q ≡ x → HoldsAt w q (oldestOf w) (countOf w) (seen log) x → HoldsAt w′ q (oldestOf w′) (countOf w′) ms′ x
+        → reachedIn w q x (movedFor log f) ≡ false → keeping w′ q ≡ keeping w q
+    go none y a b u = kept-none w′ q ms′ b ∙ sym (kept-none w q (seen log) a)
     go (some x) y a b u =
         let t : Terms x = query-terms (log .queries) q x (r .sound .queries) y in
         let hs = thresholds w q (length (x .terms)) in
-        let c : candidates (x .terms) hs (inForceNow log) ≡ candidates (x .terms) hs ms′ =
-        ap (candidates (x .terms) hs) (in-force-before log f (r .sound) ok)
-        ∙ same-candidates (x .terms) hs (departs log f) (stays log f) (arrivals f) u
-        ∙ ap (candidates (x .terms) hs) (sym (in-force-after log f (r .sound))) in
+        let s = sees log f x (r .sound) ok in
+        let c : candidates (x .terms) hs (seen log x) ≡ candidates (x .terms) hs (ms′ x) =
+        same-candidates (x .terms) hs (s .come) (s .before) (ap (reached (x .terms) hs) (sym (s .moved)) ∙ u)
+        ∙ ap (candidates (x .terms) hs) (sym (s .after)) in
         kept-some w′ q ms′ x t b
-        ∙ ap some (same-kept w w′ q (r′ .long ∙ sym (r .long)) same (oldestOf w) (countOf w) (oldestOf w′) (countOf w′) (inForceNow log) ms′ x t a b c)
-        ∙ sym (kept-some w q (inForceNow log) x t a)
+        ∙ ap some (same-kept w w′ q (r′ .long ∙ sym (r .long)) same (oldestOf w) (countOf w) (oldestOf w′) (countOf w′) (seen log x) (ms′ x) x t a b c)
+        ∙ sym (kept-some w q (seen log) x t a)

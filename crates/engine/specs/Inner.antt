@@ -26,19 +26,19 @@ abbrev pub SameRecord : List ℕ → List ℕ → ℕ → Type 0
 SameRecord w w′ q = (i : ℕ) → i < recordWords → getD w′ (recordAt q + i) 0 ≡ getD w (recordAt q + i) 0
 
 -- whether a message that goes or comes reaches the query at a number
-abbrev pub reachedIn : List ℕ → ℕ → Option Query → List Message → Bool
+abbrev pub reachedIn : List ℕ → ℕ → Option Query → (Query → List Message) → Bool
 reachedIn w q none ms = false
-reachedIn w q (some query) ms = reached (query .terms) (thresholds w q (length (query .terms))) ms
+reachedIn w q (some query) ms = reached (query .terms) (thresholds w q (length (query .terms))) (ms query)
 
 -- the first m records are updated for a change of the window, and the marks of those reached are set
 pub record Passed (m : ℕ) (w : List ℕ) (o d o′ count newest marks : ℕ) (w′ : List ℕ) : Type 0 where
   pub keeps : Keeps (recordAt 0) (recordAt m) w w′
   pub small : marks < 2 ^ m
-  pub right : (s : ℕ) (ga sa ca : List Message) (qs : List (Option Query)) → Change w o d o′ s newest ga sa ca → count ≡ s + length ca → Queries qs
-      → ((q : ℕ) → q < numbers → HoldsAt w q o (d + s) (ga ++ sa) (getD qs q none))
-      → ((q : ℕ) → q < m → HoldsAt w′ q o′ count (sa ++ ca) (getD qs q none))
-      × (marks ≡ bitmap (λ q. reachedIn w q (getD qs q none) (ga ++ ca)) m)
-      × ((q : ℕ) → q < m → reachedIn w q (getD qs q none) (ga ++ ca) ≡ false → SameRecord w w′ q)
+  pub right : (s : ℕ) (aa ga sa ca : List Message) (qs : List (Option Query)) → Change w o d o′ s newest aa ga sa ca → count ≡ s + length ca → Queries qs
+      → ((q : ℕ) → q < numbers → HoldsAt w q o (d + s) (λ _. aa) (getD qs q none))
+      → ((q : ℕ) → q < m → HoldsAt w′ q o′ count (λ _. sa ++ ca) (getD qs q none))
+      × (marks ≡ bitmap (λ q. reachedIn w q (getD qs q none) (λ _. ga ++ ca)) m)
+      × ((q : ℕ) → q < m → reachedIn w q (getD qs q none) (λ _. ga ++ ca) ≡ false → SameRecord w w′ q)
 
 -- a message is taken into the slot after the window, which is then `n′ + 1` slots from slot `o′` on, and every record is updated
 pub record Joined (m : Message) (o n o′ n′ : ℕ) (w : List ℕ) (r : Reply) (w′ : List ℕ) : Type 0 where

@@ -9,7 +9,7 @@ use lib.Dec.{eqb}
 use Rattle.paper.specs.Frame.{numbers}
 use Rattle.paper.specs.Window.{mostMessages}
 use Rattle.paper.specs.Layout.{slots, stateWords, capacityAt, lifeAt, clockAt, oldestAt, countAt, recordAt, sizeIn}
-use Rattle.paper.specs.Log.{Log, queryAt, inForceNow}
+use Rattle.paper.specs.Log.{Log, queryAt, inForceNow, seen}
 use Rattle.paper.specs.Sound.{Sound}
 use Rattle.paper.specs.Demand3.{Keeping}
 use Rattle.window.specs.Slot.{stored, window}
@@ -33,7 +33,7 @@ pub record Represents (log : Log) (w : List ℕ) : Type 0 where
   pub count-below : countOf w < slots
   pub shows : window w (oldestOf w) (countOf w) ≡ map stored (inForceNow log)
   pub sound : Sound log
-  pub records : (q : ℕ) → q < numbers → HoldsAt w q (oldestOf w) (countOf w) (inForceNow log) (queryAt log q)
+  pub records : (q : ℕ) → q < numbers → HoldsAt w q (oldestOf w) (countOf w) (seen log) (queryAt log q)
 
 -- what the memory keeps of each query: nothing where its record starts with 0
 unfoldable pub keeping : List ℕ → Keeping

@@ -9,7 +9,7 @@ use borrow.Author.Tests.{le-leb, lt-leb}
 use Rattle.paper.specs.Frame.{shape}
 use Rattle.paper.specs.Rank.{Line}
 use Rattle.paper.specs.Layout.{stateLength}
-use Rattle.paper.specs.Log.{Log, Call, lent, judgeShape, judge, acceptShape, after, departuresShape, departures, inUse, queryAt, inForceNow, judgeList, listOf, listed}
+use Rattle.paper.specs.Log.{Log, Call, lent, judgeShape, judge, acceptShape, after, departuresShape, departures, inUse, queryAt, judgeList, listOf, listed, seen}
 use Rattle.paper.specs.Demand3.{Keeping, Reply, marksShape, replyTo, markedShape, markedBy}
 
 module _ (needed state output : ℕ) where
@@ -78,7 +78,7 @@ module _ (needed : ℕ) (log : Log) (state output n : ℕ) where
   listBy t = cond t (cond (inUse (queryAt log n)) 0 10) 12
 
   abbrev linesBy : ℕ → List Line
-  linesBy r = cond (eqb r 0) (listOf (inForceNow log) (queryAt log n)) []
+  linesBy r = cond (eqb r 0) (listOf (seen log) (queryAt log n)) []
 
   pub list-enough : needed ≤ output → judgeList needed log state output n ≡ judgeList 0 log state 0 n
   unfolding judgeList

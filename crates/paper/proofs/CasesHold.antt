@@ -8,9 +8,9 @@ use Rattle.paper.specs.Window.{inForce, departing}
 use Rattle.paper.specs.Impact.{greatest, impact, squares, countOf, impactIn, score}
 use Rattle.paper.specs.Sort.{select, insert, inserts}
 use Rattle.paper.specs.Rank.{ranking}
-use Rattle.paper.specs.Log.{hasSerial, judge, accept, after, departs, departures, judgeList, listed}
+use Rattle.paper.specs.Log.{hasSerial, judge, accept, after, departs, departures, judgeList, seen, listed}
 use Rattle.paper.specs.Cases.{table, computed, expected}
 
 pub cases-hold : map computed table ≡ map expected table
-unfolding table odd bits num unpack pack field total spell pairWidths pairValues written encode pairsAt positive rises check shapeOfKind shape inForce departing greatest impact squares countOf impactIn score select insert inserts ranking hasSerial judge accept after departs departures judgeList listed
+unfolding table odd bits num unpack pack field total spell pairWidths pairValues written encode pairsAt positive rises check shapeOfKind shape inForce departing greatest impact squares countOf impactIn score select insert inserts ranking hasSerial judge accept after departs departures judgeList seen listed
 cases-hold = refl

@@ -2,23 +2,25 @@
 use Prim.Native.Nat.{ℕ, zero, suc, _≤_, _<_, _^_}
 use native.Mathlib.Nat.{le-refl}
 use native.Mathlib.Omega.{arith}
-use mathlib.Core.Path.{_≡_, refl, sym, ap, _∙_, subst}
+use mathlib.Core.Path.{_≡_, refl, sym, ap, ap₂, _∙_, subst}
 use mathlib.Core.Bool.{Bool, true, false, cond}
 use mathlib.Core.List.{List, [], _∷_, _++_, append-nil}
 use mathlib.Core.Option.{Option, none, some}
 use lib.ListN.{length, set, replicate, length-set}
 use lib.Dec.{eqb, ltb}
 use borrow.Author.Tests.{ltb-false, eqb-true, eqb-false, ne-eqb}
-use Rattle.paper.proofs.Tests.{or-false, not-refused}
+use Rattle.paper.proofs.Tests.{or-false, not-refused, by-bool}
 use Rattle.paper.specs.Frame.{Pair, Frame, Shape, Valid, shape, numbers}
 use Rattle.paper.specs.Frame.Frame.{message, tick, register, unregister}
 use Rattle.paper.specs.Frame.Shape.{refused, accepted}
-use Rattle.paper.specs.Window.{Message, standing, inForce, departing}
+use Rattle.paper.specs.Window.{Message, standing, inForce}
+use Rattle.paper.specs.Order.{Split}
+use Rattle.paper.specs.Order.Split.{empty, goes, remains}
 use Rattle.paper.specs.Rank.{Query}
-use Rattle.paper.specs.Log.{Log, Call, fresh, inForceNow, inForceAt, hasSerial, timeOf, judgeKind, judgeFrame, judgeShape, lent, judge, arrivals, queriesAfter, accept, acceptShape, after, replay, departs}
+use Rattle.paper.specs.Log.{Log, Call, fresh, inForceNow, inForceAt, hasSerial, timeOf, judgeKind, judgeFrame, judgeShape, lent, judge, arrivals, queriesAfter, accept, acceptShape, after, replay, departs, stays, seen, movedFor}
 use Rattle.paper.specs.Sound.{From, Chronological, Distinct, Messages, Terms, Queries, Sound}
 use Rattle.paper.proofs.FrameLaws.{shape-valid}
-use Rattle.paper.proofs.WindowLaws.{staying, standing-true, in-force-append, departing-staying}
+use Rattle.paper.proofs.WindowLaws.{staying, standing-true, in-force-append, departing-remaining, remaining-staying, departing-staying}
 
 -- ---- times
 
@@ -40,10 +42,11 @@ ordered-append c t (m ∷ l) new o h f g =
 eqb-swap : (a b : ℕ) → eqb a b ≡ false → eqb b a ≡ false
 eqb-swap a b e = ne-eqb b a (λ h. eqb-false a b e (sym h))
 
-serial-append : (s : ℕ) (a b : List Message) → hasSerial s (a ++ b) ≡ false → hasSerial s b ≡ false
+serial-split : (s : ℕ) {all gone stay : List Message} → Split all gone stay → hasSerial s all ≡ false → hasSerial s stay ≡ false
 unfolding hasSerial
-serial-append s [] b e = e
-serial-append s (m ∷ a) b e = serial-append s a b (or-false (eqb (m .serial) s) (hasSerial s (a ++ b)) e .1)
+serial-split s empty e = e
+serial-split s (goes {x} {all} p) e = serial-split s p (or-false (eqb (x .serial) s) (hasSerial s all) e .1)
+serial-split s (remains {x} {all} p) e = let d = or-false (eqb (x .serial) s) (hasSerial s all) e in rw (d .0) (serial-split s p (d .1))
 
 serial-snoc : (s : ℕ) (l : List Message) (m : Message) → hasSerial s l ≡ false → eqb (m .serial) s ≡ false → hasSerial s (l ++ (m ∷ [])) ≡ false
 unfolding hasSerial
@@ -52,9 +55,10 @@ serial-snoc s (x ∷ l) m e h =
     let p = or-false (eqb (x .serial) s) (hasSerial s l) e in
     rw (p .0, serial-snoc s l m (p .1) h)
 
-distinct-append : (a b : List Message) → Distinct (a ++ b) → Distinct b
-distinct-append [] b d = d
-distinct-append (m ∷ a) b d = distinct-append a b (d .1)
+distinct-split : {all gone stay : List Message} → Split all gone stay → Distinct all → Distinct stay
+distinct-split empty d = d
+distinct-split (goes p) d = distinct-split p (d .1)
+distinct-split (remains {x} p) d = (serial-split (x .serial) p (d .0), distinct-split p (d .1))
 
 distinct-snoc : (l : List Message) (m : Message) → Distinct l → hasSerial (m .serial) l ≡ false → Distinct (l ++ (m ∷ []))
 unfolding hasSerial
@@ -69,18 +73,17 @@ pub messages-append : (l new : List Message) → Messages l → Messages new →
 messages-append [] new a b = b
 messages-append (m ∷ l) new a b = (a .0, a .1, messages-append l new (a .2) b)
 
-pub messages-parts : (l new : List Message) → Messages (l ++ new) → Messages l × Messages new
-messages-parts [] new a = (tt, a)
-messages-parts (m ∷ l) new a = let p = messages-parts l new (a .2) in ((a .0, a .1, p .0), p .1)
+pub messages-split : {all gone stay : List Message} → Split all gone stay → Messages all → Messages gone × Messages stay
+messages-split empty a = (tt, tt)
+messages-split (goes p) a = let r = messages-split p (a .2) in ((a .0, a .1, r .0), r .1)
+messages-split (remains p) a = let r = messages-split p (a .2) in (r .0, (a .0, a .1, r .1))
 
 messages-in-force : (N T t : ℕ) (l : List Message) → Messages l → Messages (inForce N T t l)
 unfolding inForce
 messages-in-force N T t [] a = tt
-messages-in-force N T t (m ∷ l) a = go (standing N T t (length l) m) (messages-in-force N T t l (a .2))
-  where
-    go : (b : Bool) → Messages (inForce N T t l) → Messages (cond b (m ∷ inForce N T t l) (inForce N T t l))
-    go true ih = (a .0, a .1, ih)
-    go false ih = ih
+messages-in-force N T t (m ∷ l) a =
+    let ih = messages-in-force N T t l (a .2) in
+    by-bool (standing N T t (length l) m) (λ e. rw e (a .0, a .1, ih)) (λ e. rw e ih)
 
 pub in-force-valid : (log : Log) → Sound log → Messages (inForceNow log)
 in-force-valid log sound = messages-in-force (log .N) (log .T) (log .clock) (log .messages) (sound .messages)
@@ -105,10 +108,6 @@ no-query (some x ∷ qs) (suc n) a = (a .0, no-query qs n (a .1))
 
 -- ---- a frame that the log accepts
 
--- what is in force before it and stays
-abbrev pub stays : Log → Frame → List Message
-stays log f = staying (log .N) (log .T) (timeOf f) (length (arrivals f)) (log .messages)
-
 valid-time : (f : Frame) → Valid f → timeOf f < 2 ^ 32
 valid-time (message t s ps) v = v .time
 valid-time (tick t) v = v
@@ -124,13 +123,24 @@ module _ (log : Log) (f : Frame) (sound : Sound log) (ok : judgeFrame log f ≡ 
   kind-ok = not-refused (ltb (timeOf f) (log .clock)) 6 (judgeKind log f) ok .1
 
   -- what was in force departs or stays
-  pub in-force-before : inForceNow log ≡ departs log f ++ stays log f
+  pub in-force-before : Split (inForceNow log) (departs log f) (stays log f)
+  unfolding departs stays
+  in-force-before = departing-remaining (log .N) (log .T) (log .clock) (timeOf f) (length (arrivals f)) (log .messages)
+
+  -- what stays is what stands at the frame's time, with what arrives after it
+  pub stays-standing : stays log f ≡ staying (log .N) (log .T) (timeOf f) (length (arrivals f)) (log .messages)
+  unfolding stays
+  stays-standing = remaining-staying (log .N) (log .T) (log .clock) (timeOf f) (length (arrivals f)) (log .messages) time-from-clock
+
+  -- those that age, and the oldest going for N, are the first of them
+  pub departs-first : inForceNow log ≡ departs log f ++ stays log f
   unfolding departs
-  in-force-before =
+  departs-first =
       departing-staying (log .N) (log .T) (log .clock) (timeOf f) (length (arrivals f)) (log .clock) (log .messages) (sound .ordered) time-from-clock
+      ∙ ap (λ (l : List Message). departs log f ++ l) (sym stays-standing)
 
   distinct-stays : Distinct (stays log f)
-  distinct-stays = distinct-append (departs log f) (stays log f) (subst Distinct in-force-before (sound .distinct))
+  distinct-stays = distinct-split in-force-before (sound .distinct)
 
 -- an arriving message is in force
 arrive : (N T : ℕ) (f : Frame) → 1 ≤ N → 1 ≤ T → inForce N T (timeOf f) (arrivals f) ≡ arrivals f
@@ -141,18 +151,38 @@ arrive N T (register t m k ps) n h = refl
 arrive N T (unregister t m) n h = refl
 
 -- what stays is in force, and then what arrives
-pub in-force-after : (log : Log) (f : Frame) → Sound log → inForceNow (accept log f) ≡ stays log f ++ arrivals f
+pub in-force-after : (log : Log) (f : Frame) → Sound log → judgeFrame log f ≡ 0 → inForceNow (accept log f) ≡ stays log f ++ arrivals f
 unfolding accept
-in-force-after log f sound =
+in-force-after log f sound ok =
     in-force-append (log .N) (log .T) (timeOf f) (log .messages) (arrivals f)
-    ∙ ap (λ (l : List Message). stays log f ++ l) (arrive (log .N) (log .T) f (sound .N-least) (sound .T-least))
+    ∙ ap₂ _++_ (sym (stays-standing log f sound ok)) (arrive (log .N) (log .T) f (sound .N-least) (sound .T-least))
+
+-- What a query sees before a frame and after it, and what the frame moves for it.
+pub record Sees (log : Log) (f : Frame) (q : Query) : Type 0 where
+  pub gone : List Message
+  pub stay : List Message
+  pub come : List Message
+  pub before : Split (seen log q) gone stay
+  pub after : seen (accept log f) q ≡ stay ++ come
+  pub moved : movedFor log f q ≡ gone ++ come
+
+pub sees : (log : Log) (f : Frame) (q : Query) → Sound log → judgeFrame log f ≡ 0 → Sees log f q
+unfolding seen movedFor
+sees log f q sound ok = record {
+  gone = departs log f;
+  stay = stays log f;
+  come = arrivals f;
+  before = in-force-before log f sound ok;
+  after = in-force-after log f sound ok;
+  moved = refl;
+}
 
 -- the serial of an arriving message isn't among those that stay
 new-serial : (log : Log) (t s : ℕ) (ps : List Pair) → Sound log → judgeFrame log (message t s ps) ≡ 0 → hasSerial s (stays log (message t s ps)) ≡ false
 new-serial log t s ps sound ok =
     let free : hasSerial s (inForceAt log t) ≡ false = not-refused (hasSerial s (inForceAt log t)) 7 0 (kind-ok log (message t s ps) sound ok) .0 in
-    serial-append s (departing (log .N) (log .T) t t 1 (log .messages)) (stays log (message t s ps))
-    (rw (← (departing-staying (log .N) (log .T) t t 1 (log .clock) (log .messages) (sound .ordered) (le-refl t))) free)
+    rw (stays-standing log (message t s ps) sound ok, ← (remaining-staying (log .N) (log .T) t t 1 (log .messages) (le-refl t)))
+    (serial-split s (departing-remaining (log .N) (log .T) t t 1 (log .messages)) free)
 
 distinct-after : (log : Log) (f : Frame) → Sound log → judgeFrame log f ≡ 0 → Distinct (stays log f ++ arrivals f)
 distinct-after log (message t s ps) sound ok =
@@ -167,7 +197,7 @@ arrivals-from (tick t) c h = (tt, tt)
 arrivals-from (register t n k ps) c h = (tt, tt)
 arrivals-from (unregister t n) c h = (tt, tt)
 
-arrivals-valid : (f : Frame) → Valid f → Messages (arrivals f)
+pub arrivals-valid : (f : Frame) → Valid f → Messages (arrivals f)
 arrivals-valid (message t s ps) v = (v .serial, v .pairs, tt)
 arrivals-valid (tick t) v = tt
 arrivals-valid (register t n k ps) v = tt
@@ -192,7 +222,7 @@ accept-sound log f sound v ok =
       T-least = sound .T-least;
       clock-below = valid-time f v;
       ordered = ordered-append (log .clock) (timeOf f) (log .messages) (arrivals f) (sound .ordered) late (new .0) (new .1);
-      distinct = subst Distinct (sym (in-force-after log f sound)) (distinct-after log f sound ok);
+      distinct = subst Distinct (sym (in-force-after log f sound ok)) (distinct-after log f sound ok);
       messages = messages-append (log .messages) (arrivals f) (sound .messages) (arrivals-valid f v);
       numbered = qs .0 ∙ sound .numbered;
       queries = qs .1;

@@ -20,9 +20,9 @@ use Rattle.paper.specs.Window.{Message}
 use Rattle.paper.specs.Rank.{Query}
 use Rattle.paper.specs.Order.{In}
 use Rattle.paper.specs.Threshold.{Kept, reached}
-use Rattle.paper.specs.Log.{Log, Call, queryAt, inUse, inForceNow, lent, judgeShape, judgeFrame, judgeKind, judge, accept, acceptShape, after}
+use Rattle.paper.specs.Log.{Log, Call, queryAt, inUse, lent, judgeShape, judgeFrame, judgeKind, judge, accept, acceptShape, after, seen}
 use Rattle.paper.specs.Demand3.{Keeping, SettledAt, AllSettled, names, reachedBy, marked, bitmap, Reply, marksShape, replyTo, markedShape, markedBy, movedShape, moved, ExceedsKept, Answered}
-use Rattle.paper.proofs.Tests.{not-refused}
+use Rattle.paper.proofs.Tests.{by-bool, not-refused}
 use Rattle.paper.proofs.ThresholdLaws.{reached-exactly}
 
 -- ---- bit q of the number whose bits are tests
@@ -30,11 +30,9 @@ use Rattle.paper.proofs.ThresholdLaws.{reached-exactly}
 pub bitmap-small : (f : ℕ → Bool) (n : ℕ) → bitmap f n < 2 ^ n
 unfolding bitmap
 bitmap-small f zero = omega arith
-bitmap-small f (suc n) = go (f n) (bitmap-small f n)
-  where
-    go : (b : Bool) → bitmap f n < 2 ^ n → cond b (2 ^ n) 0 + bitmap f n < 2 ^ suc n
-    go true h = rw (pow-succ' 2 n) (omega arith)
-    go false h = rw (pow-succ' 2 n) (omega arith)
+bitmap-small f (suc n) =
+    let h = bitmap-small f n in
+    by-bool (f n) (λ e. rw (e, pow-succ' 2 n) (omega arith)) (λ e. rw (e, pow-succ' 2 n) (omega arith))
 
 -- the highest bit of a number, and those below it
 bit-top : (b : Bool) (n : ℕ) {r : ℕ} → r < 2 ^ n → odd ((cond b (2 ^ n) 0 + r) / 2 ^ n) ≡ b
@@ -52,16 +50,12 @@ bit-below true d q r =
 pub bitmap-bit : (f : ℕ → Bool) (n q : ℕ) → q < n → odd (bitmap f n / 2 ^ q) ≡ f q
 unfolding bitmap
 bitmap-bit f zero q l = absurd (omega arith)
-bitmap-bit f (suc n) q l = go (ltb q n) refl (bitmap-bit f n q)
-  where
-    go : (b : Bool) → ltb q n ≡ b → (q < n → odd (bitmap f n / 2 ^ q) ≡ f q) → odd ((cond (f n) (2 ^ n) 0 + bitmap f n) / 2 ^ q) ≡ f q
-    go true t ih =
-        let h : q < n = ltb-true q n t in
-        let e : n ≡ suc (n - 1 - q) + q = omega arith in
-        ap (λ (x : ℕ). odd ((cond (f n) (2 ^ x) 0 + bitmap f n) / 2 ^ q)) e ∙ bit-below (f n) (n - 1 - q) q (bitmap f n) ∙ ih h
-    go false t ih =
-        let e : q ≡ n = let k = ltb-false q n t in omega arith in
-        rw e (bit-top (f n) n (bitmap-small f n))
+bitmap-bit f (suc n) q l =
+    by-bool (ltb q n)
+    (λ t. let h : q < n = ltb-true q n t in
+    let e : n ≡ suc (n - 1 - q) + q = omega arith in
+    ap (λ (x : ℕ). odd ((cond (f n) (2 ^ x) 0 + bitmap f n) / 2 ^ q)) e ∙ bit-below (f n) (n - 1 - q) q (bitmap f n) ∙ bitmap-bit f n q h)
+    (λ t. let e : q ≡ n = let k = ltb-false q n t in omega arith in rw e (bit-top (f n) n (bitmap-small f n)))
 
 zero-bit : (q : ℕ) → odd (0 / 2 ^ q) ≡ false
 zero-bit q = bit-top false q (pow-pos q)
@@ -76,11 +70,8 @@ marks-shape log kept (accepted f) n l = bitmap-bit (marked log kept f) numbers n
 pub bit-marked : (needed : ℕ) (log : Log) (kept : Keeping) (c : Call) (n : ℕ) → n < numbers
     → odd (replyTo needed log kept c .marks / 2 ^ n) ≡ markedBy needed log kept c n
 unfolding replyTo markedBy
-bit-marked needed log kept c n l = go (eqb (judge needed log c) 0)
-  where
-    go : (b : Bool) → odd (cond b (marksShape log kept (shape (c .bytes))) 0 / 2 ^ n) ≡ cond b (markedShape log kept (shape (c .bytes)) n) false
-    go true = marks-shape log kept (shape (c .bytes)) n l
-    go false = zero-bit n
+bit-marked needed log kept c n l =
+    by-bool (eqb (judge needed log c) 0) (λ e. rw e (marks-shape log kept (shape (c .bytes)) n l)) (λ e. rw e (zero-bit n))
 
 -- ---- a query registered before and after a frame
 
@@ -95,20 +86,17 @@ pub registered-unnamed : (log : Log) (f : Frame) (n : ℕ) (q q′ : Query) → 
 unfolding accept
 registered-unnamed log (message t s ps) n q q′ ok b a = refl
 registered-unnamed log (tick t) n q q′ ok b a = refl
-registered-unnamed log (register t m k ps) n q q′ ok b a = go (eqb m n) refl
-  where
-    go : (e : Bool) → eqb m n ≡ e → e ≡ false
-    go true e =
-        let free = not-refused (inUse (queryAt log m)) 8 0 (not-refused (ltb t (log .clock)) 6 (judgeKind log (register t m k ps)) ok .1) .0 in
-        sym (ap inUse (ap (queryAt log) (eqb-true m n e) ∙ b)) ∙ free
-    go false e = refl
-registered-unnamed log (unregister t m) n q q′ ok b a = go (eqb m n) refl
-  where
-    go : (e : Bool) → eqb m n ≡ e → e ≡ false
-    go true e = sym (ap inUse a) ∙ ap (λ (i : ℕ). inUse (getD (set (log .queries) i none) n none)) (eqb-true m n e) ∙ ap inUse (emptied (log .queries) n)
-    go false e = refl
+registered-unnamed log (register t m k ps) n q q′ ok b a =
+    by-bool (eqb m n)
+    (λ e. let free = not-refused (inUse (queryAt log m)) 8 0 (not-refused (ltb t (log .clock)) 6 (judgeKind log (register t m k ps)) ok .1) .0 in
+    e ∙ sym (ap inUse (ap (queryAt log) (eqb-true m n e) ∙ b)) ∙ free)
+    (λ e. e)
+registered-unnamed log (unregister t m) n q q′ ok b a =
+    by-bool (eqb m n)
+    (λ e. e ∙ sym (ap inUse a) ∙ ap (λ (i : ℕ). inUse (getD (set (log .queries) i none) n none)) (eqb-true m n e) ∙ ap inUse (emptied (log .queries) n))
+    (λ e. e)
 
-none-reaches : (x : Option Query) (y : Option Kept) → reachedBy x y [] ≡ false
+none-reaches : (x : Option Query) (y : Option Kept) → reachedBy x y (λ q. []) ≡ false
 unfolding reached
 none-reaches none y = refl
 none-reaches (some q) none = refl
@@ -131,21 +119,21 @@ module _ (log : Log) (kept : Keeping) (n : ℕ) (q q′ : Query) (before : query
       x = shape (c .bytes)
 
       shaped : (b : Bool) → eqb (judgeShape log x) 0 ≡ b → queryAt (cond b (acceptShape log x) log) n ≡ some q′
-          → cond b (markedShape log kept x n) false ≡ reachedBy (queryAt log n) (kept n) (cond b (movedShape log x) [])
+          → cond b (markedShape log kept x n) false ≡ reachedBy (queryAt log n) (kept n) (λ q. cond b (movedShape log x q) [])
       shaped true e a = marked-shape x (eqb-true (judgeShape log x) 0 e) a
       shaped false e a = sym (none-reaches (queryAt log n) (kept n))
 
       go : (b : Bool) → queryAt (cond (eqb (cond b (judgeShape log x) 12) 0) (acceptShape log x) log) n ≡ some q′
           → cond (eqb (cond b (judgeShape log x) 12) 0) (markedShape log kept x n) false
-          ≡ reachedBy (queryAt log n) (kept n) (cond (eqb (cond b (judgeShape log x) 12) 0) (movedShape log x) [])
+          ≡ reachedBy (queryAt log n) (kept n) (λ q. cond (eqb (cond b (judgeShape log x) 12) 0) (movedShape log x q) [])
       go true a = shaped (eqb (judgeShape log x) 0) refl a
       go false a = sym (none-reaches (queryAt log n) (kept n))
 
 -- reached by what is kept of a settled query
-reached-kept : (q : Query) (now : List Message) (x : Option Kept) (ms : List Message) → SettledAt (some q) now x
-    → (reachedBy (some q) x ms ≡ true) ↔ ((m : Message) × In m ms × ExceedsKept q x m)
+reached-kept : (q : Query) (now : Query → List Message) (x : Option Kept) (ms : Query → List Message) → SettledAt (some q) now x
+    → (reachedBy (some q) x ms ≡ true) ↔ ((m : Message) × In m (ms q) × ExceedsKept q x m)
 reached-kept q now none ms s = absurd s
-reached-kept q now (some x) ms s = reached-exactly (q .terms) (x .thresholds) (s .one-each) ms
+reached-kept q now (some x) ms s = reached-exactly (q .terms) (x .thresholds) (s .one-each) (ms q)
 
 -- a call answered as the log says, on what agreed with the log, marks as the demand says
 pub answered-by-log : (needed : ℕ) (log : Log) (kept : Keeping) (c : Call) (r : Reply) (kept′ : Keeping) → AllSettled log kept → r ≡ replyTo needed log kept c
@@ -158,7 +146,7 @@ answered-by-log needed log kept c r kept′ settled e unmarked =
           ap (λ (r : Reply). odd (r .marks / 2 ^ n)) e ∙ bit-marked needed log kept c n l
           ∙ marked-reached log kept n q q′ before needed c after′
           ∙ ap (λ (x : Option Query). reachedBy x (kept n) (moved needed log c)) before in
-          let x = reached-kept q (inForceNow log) (kept n) (moved needed log c) (subst (λ (y : Option Query). SettledAt y (inForceNow log) (kept n)) before (settled n l)) in
+          let x = reached-kept q (seen log) (kept n) (moved needed log c) (subst (λ (y : Option Query). SettledAt y (seen log) (kept n)) before (settled n l)) in
           (λ h. x .0 (sym is ∙ h), λ h. is ∙ x .1 h);
       unmarked = unmarked;
     }

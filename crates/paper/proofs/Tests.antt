@@ -1,9 +1,14 @@
--- What a test that is a conjunction, a disjunction or a choice says of its parts. Assumes nothing.
+-- A test that is one or the other, and what one that is a conjunction, a disjunction or a choice says of its parts. Assumes nothing.
 use Prim.Native.Nat.{ℕ, suc}
 use native.Mathlib.Omega.{arith}
 use mathlib.Core.Path.{_≡_, refl}
 use mathlib.Core.Logic.{_⊎_, inl, inr}
 use mathlib.Core.Bool.{Bool, true, false, cond, _&&_, _||_, false≢true, true≢false}
+
+-- by the two values of a test
+pub by-bool : {X : Type 0} (b : Bool) → (b ≡ true → X) → (b ≡ false → X) → X
+by-bool true t f = t refl
+by-bool false t f = f refl
 
 pub and-true : (a b : Bool) → (a && b) ≡ true → (a ≡ true) × (b ≡ true)
 and-true true b e = (refl, e)

@@ -5,21 +5,21 @@ use native.Mathlib.Nat.{eq-or-lt-of-le, mul-le-mul-left, mul-zero}
 use native.Mathlib.Omega.{arith}
 use mathlib.Core.Path.{_≡_, refl, sym, ap, _∙_, subst}
 use mathlib.Core.Bool as Bools
-use mathlib.Core.Bool.{Bool, true, false, cond, false≢true}
+use mathlib.Core.Bool.{Bool, true, false, false≢true}
 use mathlib.Core.Logic.{_⊎_, inl, inr, ⊎-elim, _↔_}
-use mathlib.Core.List.{List, [], _∷_, _++_, map, append-nil, cons≢nil}
+use mathlib.Core.List.{List, [], _∷_, _++_, map}
 use lib.ListN.{length, getD, take}
 use lib.Dec.{ltb}
 use borrow.Author.Tests.{ltb-true, ltb-false, lt-ltb, le-ltb, le-leb, lt-leb}
 use Rattle.paper.specs.Frame.{Pair}
 use Rattle.paper.specs.Window.{Message}
 use Rattle.paper.specs.Impact.{impactIn, score}
-use Rattle.paper.specs.Order.{In}
+use Rattle.paper.specs.Order.{In, Split}
 use Rattle.paper.specs.Sort.{select, sort}
 use Rattle.paper.specs.Rank.{Query, Entry, ahead, entry, scoring, entries, ranking, lines, serials}
 use Rattle.paper.specs.Threshold.{termAt, thresholdSum, Exceeds, exceeds, candidates, reached, lastScore, Tight, Kept, Settled}
-use Rattle.paper.proofs.Tests.{or-false, or-true}
-use Rattle.paper.proofs.SortLaws.{select-append, select-all, select-none, select-in, select-take, select-select, select-map, count-sort, best}
+use Rattle.paper.proofs.Tests.{by-bool, or-false, or-true}
+use Rattle.paper.proofs.SortLaws.{in-left, in-right, select-all, select-in, select-take, select-select, select-change, select-map, count-sort, best}
 use Rattle.paper.proofs.RankLaws.{ranking-length, ranking-last}
 
 -- ---- a message that exceeds no threshold
@@ -34,11 +34,7 @@ score-below (q ∷ qs) (h ∷ hs) ps e n =
     omega (arith, mul-le-mul-left (q .amount) low, score-below qs hs ps (d .1) (omega arith))
 
 above-exceeds : (qs : List Pair) (hs : List ℕ) (ps : List Pair) → length hs ≡ length qs → thresholdSum qs hs < score qs ps → exceeds qs hs ps ≡ true
-above-exceeds qs hs ps n h = go (exceeds qs hs ps) refl
-  where
-    go : (t : Bool) → exceeds qs hs ps ≡ t → t ≡ true
-    go true e = refl
-    go false e = absurd (omega (arith, score-below qs hs ps e n))
+above-exceeds qs hs ps n h = by-bool (exceeds qs hs ps) (λ e. e) (λ e. absurd (omega (arith, score-below qs hs ps e n)))
 
 -- a message that exceeds one is strictly above it in some term
 pub exceeds-strictly : (qs : List Pair) (hs : List ℕ) (ps : List Pair) → exceeds qs hs ps ≡ true → Exceeds qs hs ps
@@ -144,25 +140,21 @@ scored-above q s ms =
     ∙ select-map (entry (score (q .terms))) (above s) ms
 
 -- messages that score less than the last of a full list come and go without changing it
-pub outranked : (q : Query) (gone stay come : List Message) → length (ranking q (gone ++ stay)) ≡ q .k → 0 < lastScore (ranking q (gone ++ stay))
-    → ((m : Message) → In m gone → score (q .terms) (m .pairs) < lastScore (ranking q (gone ++ stay)))
-    → ((m : Message) → In m come → score (q .terms) (m .pairs) < lastScore (ranking q (gone ++ stay))) → ranking q (gone ++ stay) ≡ ranking q (stay ++ come)
-outranked q gone stay come full positive low-gone low-come =
-    ranking-agrees q s (gone ++ stay) (stay ++ come)
-    (scored-above q s (gone ++ stay) ∙ ap (map (entry (score (q .terms)))) (before ∙ sym after) ∙ sym (scored-above q s (stay ++ come)))
+pub outranked : (q : Query) {all gone stay : List Message} (come : List Message) → Split all gone stay → length (ranking q all) ≡ q .k
+    → 0 < lastScore (ranking q all) → ((m : Message) → In m gone → score (q .terms) (m .pairs) < lastScore (ranking q all))
+    → ((m : Message) → In m come → score (q .terms) (m .pairs) < lastScore (ranking q all)) → ranking q all ≡ ranking q (stay ++ come)
+outranked q {all} {gone} {stay} come split full positive low-gone low-come =
+    ranking-agrees q s all (stay ++ come)
+    (scored-above q s all
+    ∙ ap (map (entry (score (q .terms)))) (select-change (high q s) come split (none gone low-gone) (none come low-come))
+    ∙ sym (scored-above q s (stay ++ come)))
     (inr (full, omega arith))
   where
     s : ℕ
-    s = lastScore (ranking q (gone ++ stay)) - 1
+    s = lastScore (ranking q all) - 1
 
-    none : (ms : List Message) → ((m : Message) → In m ms → score (q .terms) (m .pairs) < lastScore (ranking q (gone ++ stay))) → select (high q s) ms ≡ []
-    none ms low = select-none (high q s) ms (λ m i. le-ltb s (score (q .terms) (m .pairs)) (let l = low m i in omega arith))
-
-    before : select (high q s) (gone ++ stay) ≡ select (high q s) stay
-    before = select-append (high q s) gone stay ∙ ap (λ (l : List Message). l ++ select (high q s) stay) (none gone low-gone)
-
-    after : select (high q s) (stay ++ come) ≡ select (high q s) stay
-    after = select-append (high q s) stay come ∙ ap (λ (l : List Message). select (high q s) stay ++ l) (none come low-come) ∙ append-nil (select (high q s) stay)
+    none : (ms : List Message) → ((m : Message) → In m ms → score (q .terms) (m .pairs) < lastScore (ranking q all)) → (m : Message) → In m ms → high q s m ≡ false
+    none ms low m i = le-ltb s (score (q .terms) (m .pairs)) (let l = low m i in omega arith)
 
 -- ---- candidates
 
@@ -219,39 +211,21 @@ settled-same q ms ms′ kept s c =
     let e : ranking q ms ≡ ranking q ms′ = same ∙ candidates-enough q hs (s .one-each) ms′ (subst (Safe (thresholdSum (q .terms) hs) (q .k)) same safe) in
     settled-again q ms ms′ kept (kept .candidates) s e (s .above ∙ ap serials c)
 
-unreached : (qs : List Pair) (hs : List ℕ) (ms : List Message) → reached qs hs ms ≡ false → candidates qs hs ms ≡ []
-unfolding reached select
-unreached qs hs [] e = refl
-unreached qs hs (m ∷ ms) e =
-    let d = or-false (exceeds qs hs (m .pairs)) (reached qs hs ms) e in
-    ap {B = List Message} (λ t. cond t (m ∷ candidates qs hs ms) (candidates qs hs ms)) (d .0) ∙ unreached qs hs ms (d .1)
-
-both-nil : {A : Type 0} (a b : List A) → a ++ b ≡ [] → (a ≡ []) × (b ≡ [])
-both-nil [] b e = (refl, e)
-both-nil (x ∷ a) b e = absurd (cons≢nil e)
+unreached : (qs : List Pair) (hs : List ℕ) (ms : List Message) → reached qs hs ms ≡ false → (m : Message) → In m ms → exceeds qs hs (m .pairs) ≡ false
+unfolding reached
+unreached qs hs (x ∷ ms) e m i =
+    let d = or-false (exceeds qs hs (x .pairs)) (reached qs hs ms) e in
+    ⊎-elim (λ p. rw p (d .0)) (λ p. unreached qs hs ms (d .1) m p) i
 
 -- a change of the window that doesn't reach the query leaves its candidates
-pub same-candidates : (qs : List Pair) (hs : List ℕ) (gone stay come : List Message) → reached qs hs (gone ++ come) ≡ false
-    → candidates qs hs (gone ++ stay) ≡ candidates qs hs (stay ++ come)
-same-candidates qs hs gone stay come e = before ∙ sym after
-  where
-    those : List Message → List Message
-    those = candidates qs hs
-
-    joined : (a b : List Message) → those (a ++ b) ≡ those a ++ those b
-    joined = select-append (λ m. exceeds qs hs (m .pairs))
-
-    neither : (those gone ≡ []) × (those come ≡ [])
-    neither = both-nil (those gone) (those come) (sym (joined gone come) ∙ unreached qs hs (gone ++ come) e)
-
-    before : those (gone ++ stay) ≡ those stay
-    before = joined gone stay ∙ ap (λ l. l ++ those stay) (neither .0)
-
-    after : those (stay ++ come) ≡ those stay
-    after = joined stay come ∙ ap (λ l. those stay ++ l) (neither .1) ∙ append-nil (those stay)
+pub same-candidates : (qs : List Pair) (hs : List ℕ) {all gone stay : List Message} (come : List Message) → Split all gone stay
+    → reached qs hs (gone ++ come) ≡ false → candidates qs hs all ≡ candidates qs hs (stay ++ come)
+same-candidates qs hs {gone = gone} come split e =
+    let low = unreached qs hs (gone ++ come) e in
+    select-change (λ m. exceeds qs hs (m .pairs)) come split (λ m i. low m (in-left m gone come i)) (λ m i. low m (in-right m gone come i))
 
 -- THE LAW: a settled query that a change of the window doesn't reach is settled after it, with nothing kept changed
-pub skip : (q : Query) (gone stay come : List Message) (kept : Kept) → Settled q (gone ++ stay) kept
+pub skip : (q : Query) {all gone stay : List Message} (come : List Message) (kept : Kept) → Split all gone stay → Settled q all kept
     → reached (q .terms) (kept .thresholds) (gone ++ come) ≡ false → Settled q (stay ++ come) kept
-skip q gone stay come kept s e =
-    settled-same q (gone ++ stay) (stay ++ come) kept s (same-candidates (q .terms) (kept .thresholds) gone stay come e)
+skip q {all} {stay = stay} come kept split s e =
+    settled-same q all (stay ++ come) kept s (same-candidates (q .terms) (kept .thresholds) come split e)

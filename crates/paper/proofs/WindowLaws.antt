@@ -1,6 +1,6 @@
 -- Laws of the window over messages whose times never fall: no more than N are in force, and as the clock moves on and messages are added the
 -- first of them leave. Assumes nothing.
-use Prim.Native.Nat.{ℕ, suc, _+_, _-_, _≤_, _<_}
+use Prim.Native.Nat.{ℕ, _+_, _-_, _≤_, _<_}
 use native.Mathlib.Nat.{add-zero}
 use native.Mathlib.Omega.{arith}
 use mathlib.Core.Path.{_≡_, refl, ap, ap₂, _∙_}
@@ -9,8 +9,10 @@ use mathlib.Core.List.{List, [], _∷_, _++_}
 use lib.ListN.{length, length-append}
 use lib.Dec.{leb, ltb}
 use borrow.Author.Tests.{lt-ltb, ltb-true, lt-leb, leb-false, not-true}
-use Rattle.paper.proofs.Tests.{and-true}
-use Rattle.paper.specs.Window.{Message, standing, inForce, departing}
+use Rattle.paper.proofs.Tests.{by-bool, and-true}
+use Rattle.paper.specs.Window.{Message, standing, inForce, departing, remaining}
+use Rattle.paper.specs.Order.{Split}
+use Rattle.paper.specs.Order.Split.{empty, goes, remains}
 use Rattle.paper.specs.Sound.{From, Chronological}
 
 -- ---- one message
@@ -43,13 +45,7 @@ module _ (N T : ℕ) where
   pub in-force-append : (t : ℕ) (l new : List Message) → inForce N T t (l ++ new) ≡ staying t (length new) l ++ inForce N T t new
   unfolding staying inForce
   in-force-append t [] new = refl
-  in-force-append t (m ∷ l) new = rw (length-append l new, in-force-append t l new) (go (standing N T t (length l + length new) m))
-    where
-      go : (b : Bool)
-          → cond b (m ∷ (staying t (length new) l ++ inForce N T t new)) (staying t (length new) l ++ inForce N T t new)
-          ≡ cond b (m ∷ staying t (length new) l) (staying t (length new) l) ++ inForce N T t new
-      go true = refl
-      go false = refl
+  in-force-append t (m ∷ l) new = rw (length-append l new, in-force-append t l new) (by-bool (standing N T t (length l + length new) m) (λ e. rw e) (λ e. rw e))
 
   -- ---- where one message stands, so do all after it
 
@@ -72,12 +68,30 @@ module _ (N T : ℕ) where
   pub in-force-most : (t : ℕ) (l : List Message) → (length (inForce N T t l) ≤ length l) × (length (inForce N T t l) ≤ N)
   unfolding inForce
   in-force-most t [] = (omega arith, omega arith)
-  in-force-most t (m ∷ l) = go (standing N T t (length l) m) refl (in-force-most t l)
+  in-force-most t (m ∷ l) =
+      let ih = in-force-most t l in
+      by-bool (standing N T t (length l) m) (λ e. let p = stands t (length l) m e in rw e (omega arith, omega arith)) (λ e. rw e (omega arith, omega arith))
+
+  -- what was in force departs or remains
+  pub departing-remaining : (t t′ more : ℕ) (l : List Message) → Split (inForce N T t l) (departing N T t t′ more l) (remaining N T t t′ more l)
+  unfolding inForce departing remaining
+  departing-remaining t t′ more [] = empty
+  departing-remaining t t′ more (m ∷ l) = go (standing N T t (length l) m) (standing N T t′ (length l + more) m) (departing-remaining t t′ more l)
     where
-      go : (b : Bool) → standing N T t (length l) m ≡ b → (length (inForce N T t l) ≤ length l) × (length (inForce N T t l) ≤ N)
-          → (length (cond b (m ∷ inForce N T t l) (inForce N T t l)) ≤ suc (length l)) × (length (cond b (m ∷ inForce N T t l) (inForce N T t l)) ≤ N)
-      go true e ih = let p = stands t (length l) m e in (omega arith, omega arith)
-      go false e ih = (omega arith, omega arith)
+      go : (b d : Bool) {all gone stay : List Message} → Split all gone stay → Split (cond b (m ∷ all) all) (cond (b && not d) (m ∷ gone) gone) (cond (b && d) (m ∷ stay) stay)
+      go true true s = remains s
+      go true false s = goes s
+      go false d s = s
+
+  -- as time goes on, whoever stands stood before
+  pub remaining-staying : (t t′ more : ℕ) (l : List Message) → t ≤ t′ → remaining N T t t′ more l ≡ staying t′ more l
+  unfolding remaining staying
+  remaining-staying t t′ more [] h = refl
+  remaining-staying t t′ more (m ∷ l) h =
+      rw (remaining-staying t t′ more l h)
+      (by-bool (standing N T t′ (length l + more) m)
+      (λ e. rw (e, later-stands t t′ (length l) (length l + more) m m e h (omega arith) (omega arith)))
+      (λ e. rw (e, and-false (standing N T t (length l) m))))
 
   -- what was in force is what departs and then what stays
   pub departing-staying : (t t′ more c : ℕ) (l : List Message) → Chronological c l → t ≤ t′ → inForce N T t l ≡ departing N T t t′ more l ++ staying t′ more l

@@ -3,7 +3,7 @@ use Prim.Native.Nat.{ℕ, zero, suc, _+_, _/_, _^_, _<_}
 use mathlib.Core.Path.{_≡_}
 use mathlib.Core.Logic.{_↔_}
 use mathlib.Core.Bool.{Bool, true, false, cond, _||_}
-use mathlib.Core.List.{List, [], _++_}
+use mathlib.Core.List.{List, []}
 use mathlib.Core.Option.{Option, none, some}
 use lib.Dec.{eqb}
 use Rattle.wire.specs.Bits.{odd}
@@ -14,7 +14,7 @@ use Rattle.paper.specs.Window.{Message}
 use Rattle.paper.specs.Rank.{Query}
 use Rattle.paper.specs.Order.{In}
 use Rattle.paper.specs.Threshold.{Kept, Settled, reached, Exceeds}
-use Rattle.paper.specs.Log.{Log, Call, queryAt, inForceNow, arrivals, departs, judge, after, departures}
+use Rattle.paper.specs.Log.{Log, Call, queryAt, judge, after, departures, seen, movedFor}
 
 -- what an engine keeps: for each number nothing, or what it keeps of the query
 abbrev pub Keeping : Type 0
@@ -22,14 +22,15 @@ Keeping = ℕ → Option Kept
 
 -- ---- "at its end for each registered query": what is kept agrees with the log, and nothing is kept for a number not in use
 
-abbrev pub SettledAt : Option Query → List Message → Option Kept → Type 0
+-- by what each query sees
+abbrev pub SettledAt : Option Query → (Query → List Message) → Option Kept → Type 0
 SettledAt none ms none = Unit {0}
 SettledAt none ms (some x) = ⊥
 SettledAt (some q) ms none = ⊥
-SettledAt (some q) ms (some x) = Settled q ms x
+SettledAt (some q) ms (some x) = Settled q (ms q) x
 
 abbrev pub AllSettled : Log → Keeping → Type 0
-AllSettled log kept = (n : ℕ) → n < numbers → SettledAt (queryAt log n) (inForceNow log) (kept n)
+AllSettled log kept = (n : ℕ) → n < numbers → SettledAt (queryAt log n) (seen log) (kept n)
 
 -- ---- marks
 
@@ -41,14 +42,14 @@ names (register t m k ps) n = eqb m n
 names (unregister t m) n = eqb m n
 
 -- "an arriving or departing message exceeds one of its thresholds as they stood before the frame"
-abbrev pub reachedBy : Option Query → Option Kept → List Message → Bool
+abbrev pub reachedBy : Option Query → Option Kept → (Query → List Message) → Bool
 reachedBy none x ms = false
 reachedBy (some q) none ms = false
-reachedBy (some q) (some x) ms = reached (q .terms) (x .thresholds) ms
+reachedBy (some q) (some x) ms = reached (q .terms) (x .thresholds) (ms q)
 
 -- "bit q set exactly if query q is reached, registered or dropped by it", for an accepted frame
 unfoldable pub marked : Log → Keeping → Frame → ℕ → Bool
-marked log kept f n = names f n || reachedBy (queryAt log n) (kept n) (departs log f ++ arrivals f)
+marked log kept f n = names f n || reachedBy (queryAt log n) (kept n) (movedFor log f)
 
 -- the number whose bit i is set where test i holds, for i below n
 unfoldable pub bitmap : (ℕ → Bool) → ℕ → ℕ
@@ -85,13 +86,13 @@ markedShape log kept (accepted f) n = marked log kept f n
 unfoldable pub markedBy : ℕ → Log → Keeping → Call → ℕ → Bool
 markedBy needed log kept c n = cond (eqb (judge needed log c) 0) (markedShape log kept (shape (c .bytes)) n) false
 
--- the messages that depart or arrive with a call, none where it is refused
-abbrev pub movedShape : Log → Shape → List Message
-movedShape log (refused r) = []
-movedShape log (accepted f) = departs log f ++ arrivals f
+-- the messages that depart or arrive for a query with a call, none where it is refused
+abbrev pub movedShape : Log → Shape → Query → List Message
+movedShape log (refused r) q = []
+movedShape log (accepted f) q = movedFor log f q
 
-unfoldable pub moved : ℕ → Log → Call → List Message
-moved needed log c = cond (eqb (judge needed log c) 0) (movedShape log (shape (c .bytes))) []
+unfoldable pub moved : ℕ → Log → Call → Query → List Message
+moved needed log c q = cond (eqb (judge needed log c) 0) (movedShape log (shape (c .bytes)) q) []
 
 -- a message that has, in one of a query's terms, an impact above the threshold kept there
 abbrev pub ExceedsKept : Query → Option Kept → Message → Type 0
@@ -105,5 +106,5 @@ ExceedsKept q (some x) m = Exceeds (q .terms) (x .thresholds) (m .pairs)
 pub record Answered (needed : ℕ) (log : Log) (kept : Keeping) (c : Call) (r : Reply) (kept′ : Keeping) : Type 0 where
   pub reply : r ≡ replyTo needed log kept c
   pub marked : (n : ℕ) (q q′ : Query) → n < numbers → queryAt log n ≡ some q → queryAt (after needed log c) n ≡ some q′
-      → (odd (r .marks / 2 ^ n) ≡ true) ↔ ((m : Message) × In m (moved needed log c) × ExceedsKept q (kept n) m)
+      → (odd (r .marks / 2 ^ n) ≡ true) ↔ ((m : Message) × In m (moved needed log c q) × ExceedsKept q (kept n) m)
   pub unmarked : (n : ℕ) → n < numbers → markedBy needed log kept c n ≡ false → kept′ n ≡ kept n

@@ -9,7 +9,7 @@ use lib.Dec.{eqb, leb, ltb}
 use Rattle.paper.specs.Frame.{Frame, Shape, shape, termWidth, numbers}
 use Rattle.paper.specs.Frame.Frame.{message, tick, register, unregister}
 use Rattle.paper.specs.Frame.Shape.{refused, accepted}
-use Rattle.paper.specs.Window.{Message, mostMessages, longestLife, inForce, departing}
+use Rattle.paper.specs.Window.{Message, mostMessages, longestLife, inForce, departing, remaining}
 use Rattle.paper.specs.Rank.{Query, Line, ranking, postings, lines}
 use Rattle.paper.specs.Layout.{stateLength}
 
@@ -43,6 +43,10 @@ inForceAt log t = inForce (log .N) (log .T) t (log .messages)
 
 abbrev pub inForceNow : Log → List Message
 inForceNow log = inForceAt log (log .clock)
+
+-- the messages that a query ranks and takes its candidates from
+unfoldable pub seen : Log → Query → List Message
+seen log q = inForceNow log
 
 -- ---- judging a frame
 
@@ -128,6 +132,14 @@ replay needed log (c ∷ cs) = replay needed (after needed log c) cs
 unfoldable pub departs : Log → Frame → List Message
 departs log f = departing (log .N) (log .T) (log .clock) (timeOf f) (length (arrivals f)) (log .messages)
 
+-- those that are in force before it and after it
+unfoldable pub stays : Log → Frame → List Message
+stays log f = remaining (log .N) (log .T) (log .clock) (timeOf f) (length (arrivals f)) (log .messages)
+
+-- what it moves for a query: the messages that the query sees before it and not after it, then those that it sees after it and not before it
+unfoldable pub movedFor : Log → Frame → Query → List Message
+movedFor log f q = departs log f ++ arrivals f
+
 abbrev pub departuresShape : Log → Shape → ℕ
 departuresShape log (refused r) = 0
 departuresShape log (accepted f) = length (departs log f)
@@ -153,13 +165,14 @@ judgeStart N T state =
 unfoldable pub judgeList : ℕ → Log → ℕ → ℕ → ℕ → ℕ
 judgeList needed log state output n = cond (lent state output needed) (cond (inUse (queryAt log n)) 0 10) 12
 
-abbrev pub listOf : List Message → Option Query → List Line
+-- the list of a query that sees these messages
+abbrev pub listOf : (Query → List Message) → Option Query → List Line
 listOf ms none = []
-listOf ms (some q) = lines (ranking q ms)
+listOf ms (some q) = lines (ranking q (ms q))
 
 -- the entries of a list reading, none where it is refused
 unfoldable pub listed : ℕ → Log → ℕ → ℕ → ℕ → List Line
-listed needed log state output n = cond (eqb (judgeList needed log state output n) 0) (listOf (inForceNow log) (queryAt log n)) []
+listed needed log state output n = cond (eqb (judgeList needed log state output n) 0) (listOf (seen log) (queryAt log n)) []
 
 -- the postings of a term in force now
 abbrev pub posted : Log → ℕ → List Line

@@ -43,3 +43,11 @@ departing N T clock clock′ more (m ∷ l) =
     cond (standing N T clock (length l) m && not (standing N T clock′ (length l + more) m))
     (m ∷ departing N T clock clock′ more l)
     (departing N T clock clock′ more l)
+
+-- those in force before and after
+unfoldable pub remaining : ℕ → ℕ → ℕ → ℕ → ℕ → List Message → List Message
+remaining N T clock clock′ more [] = []
+remaining N T clock clock′ more (m ∷ l) =
+    cond (standing N T clock (length l) m && standing N T clock′ (length l + more) m)
+    (m ∷ remaining N T clock clock′ more l)
+    (remaining N T clock clock′ more l)

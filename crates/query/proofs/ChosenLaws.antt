@@ -2,7 +2,7 @@
 use Prim.Native.Nat.{ℕ}
 use mathlib.Core.Path.{_≡_, refl, sym, ap, _∙_, subst}
 use mathlib.Core.Bool.{Bool, true, false, cond, _||_}
-use mathlib.Core.Logic.{_⊎_, inl, inr, ⊎-elim}
+use mathlib.Core.Logic.{inl, inr, ⊎-elim}
 use mathlib.Core.List.{List, [], _∷_, _++_, map, map-map}
 use Rattle.paper.specs.Frame.{Pair, Pairs, countWidth, mostPairs}
 use Rattle.paper.specs.Order.{In}
@@ -17,26 +17,6 @@ use Rattle.window.specs.Slot.{Slot, slot, stored, ring, window}
 use Rattle.candidates.specs.Match.{exceedsCells, reachedSlots, AllRising}
 use Rattle.candidates.proofs.MatchLaws.{exceeds-stored, all-rising, reached-stored, select-agree, taken-slots}
 use Rattle.query.specs.Post.{Over}
-
--- ---- in two lists
-
-pub in-append : {A : Type 0} (a : A) (xs ys : List A) → In a (xs ++ ys) → In a xs ⊎ In a ys
-in-append a [] ys m = inr m
-in-append a (x ∷ xs) ys (inl e) = inl (inl e)
-in-append a (x ∷ xs) ys (inr m) = go (in-append a xs ys m)
-  where
-    go : In a xs ⊎ In a ys → In a (x ∷ xs) ⊎ In a ys
-    go (inl i) = inl (inr i)
-    go (inr i) = inr i
-
-pub in-left : {A : Type 0} (a : A) (xs ys : List A) → In a xs → In a (xs ++ ys)
-in-left a [] ys m = absurd m
-in-left a (x ∷ xs) ys (inl e) = inl e
-in-left a (x ∷ xs) ys (inr m) = inr (in-left a xs ys m)
-
-pub in-right : {A : Type 0} (a : A) (xs ys : List A) → In a ys → In a (xs ++ ys)
-in-right a [] ys m = m
-in-right a (x ∷ xs) ys m = inr (in-right a xs ys m)
 
 -- ---- messages within their ranges
 
@@ -53,10 +33,6 @@ messages-select test (m ∷ ms) v = go (test m) (messages-select test ms (v .2))
     go : (b : Bool) → Messages (select test ms) → Messages (cond b (m ∷ select test ms) (select test ms))
     go true ih = (v .0, v .1, ih)
     go false ih = ih
-
-pub messages-parts : (xs ys : List Message) → Messages (xs ++ ys) → Messages xs × Messages ys
-messages-parts [] ys v = (tt, v)
-messages-parts (x ∷ xs) ys v = let r = messages-parts xs ys (v .2) in ((v .0, v .1, r .0), r .1)
 
 -- ---- slots that exceed a threshold
 

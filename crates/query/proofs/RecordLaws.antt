@@ -100,13 +100,13 @@ module _ {a e : ℕ} {w w′ : List ℕ} (kept : Keeps a e w w′) where
           cells qs hs j l true e = ap (λ x. exceedsCells qs hs (x .cells)) (sym (same j l e))
           cells qs hs j l false e = refl
 
-      pub holds-at-same : (ms : List Message) (x : Option Query) → ((query : Query) → x ≡ some query → Terms query) → HoldsAt w q o n ms x → HoldsAt w′ q o n ms x
+      pub holds-at-same : (ms : Query → List Message) (x : Option Query) → ((query : Query) → x ≡ some query → Terms query) → HoldsAt w q o n ms x → HoldsAt w′ q o n ms x
       holds-at-same ms none t h = λ i l. word-same out (recordAt q + i) (omega arith) (omega arith) ∙ h i l
       holds-at-same ms (some query) t h = holds-same (t query refl) h
 
 -- ---- which are in use
 
-pub in-use-is : (w : List ℕ) (q o n : ℕ) (ms : List Message) (x : Option Query) → ((query : Query) → x ≡ some query → Terms query) → HoldsAt w q o n ms x
+pub in-use-is : (w : List ℕ) (q o n : ℕ) (ms : Query → List Message) (x : Option Query) → ((query : Query) → x ≡ some query → Terms query) → HoldsAt w q o n ms x
     → not (eqb (getD w (recordAt q) 0) 0) ≡ inUse x
 in-use-is w q o n ms none t h = ap not (eq-eqb _ 0 (rw add-zero at (h 0 (omega arith))))
 in-use-is w q o n ms (some query) t h = ap not (ne-eqb (getD w (recordAt q) 0) 0 (λ z. omega (arith, h .says .k, t query refl .k-least)))

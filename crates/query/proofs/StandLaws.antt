@@ -1,16 +1,16 @@
 -- A list that stands: it is full, and no message that goes or comes scores as much as its last. Assumes nothing.
-use Prim.Native.Nat.{ℕ, _+_, _-_, _%_, _≤_, _<_}
+use Prim.Native.Nat.{ℕ, zero, suc, _+_, _-_, _%_, _≤_, _<_}
 use native.Mathlib.Omega.{arith}
 use mathlib.Core.Path.{_≡_, refl, sym, ap, ap₂, _∙_, subst}
 use mathlib.Core.Bool.{Bool, true, false, cond, _&&_, false≢true, true≢false}
 use mathlib.Core.Logic.{inl, ⊎-elim}
 use mathlib.Core.List.{List, [], _∷_, _++_, map}
-use lib.ListN.{length, getD, drop, length-map}
+use lib.ListN.{length, getD, length-map}
 use lib.Dec.{eqb}
 use borrow.Author.Tests.{eqb-true, eq-eqb, ne-eqb, ltb-true, lt-ltb, le-ltb}
 use Rattle.paper.specs.Frame.{Pair}
 use Rattle.paper.specs.Impact.{score}
-use Rattle.paper.specs.Order.{In}
+use Rattle.paper.specs.Order.{In, Ordered}
 use Rattle.paper.specs.Rank as Rank
 use Rattle.paper.specs.Rank.{ranking, serials}
 use Rattle.paper.specs.Sort.{select}
@@ -20,14 +20,14 @@ use Rattle.paper.specs.Threshold as Threshold
 use Rattle.paper.specs.Window.{Message}
 use Rattle.paper.specs.Layout.{slots, listedIn, thresholdsIn, serialsIn, scoresIn}
 use Rattle.paper.proofs.Tests.{and-true}
+use Rattle.paper.proofs.SortLaws.{in-append, in-left, in-right, in-gone, in-split, split-apart}
 use Rattle.paper.proofs.ThresholdLaws.{outranked, settled-again}
 use Rattle.memory.proofs.KeepsLaws.{keeps-at, keeps-part, keeps-wider}
 use Rattle.rank.specs.declared.Ranked.{Ranked}
 use Rattle.rank.specs.Listing.{linesOf, lastOf}
 use Rattle.rank.proofs.LineLaws.{length-listed}
 use Rattle.rank.proofs.PaperLaws.{lines-last}
-use Rattle.window.specs.Slot.{Slot, slot, stored, ring}
-use Rattle.window.proofs.RingLaws.{ring-append}
+use Rattle.window.specs.Slot.{Slot, slot, stored, ring, next}
 use Rattle.window.proofs.SlotLaws.{slot-kept}
 use Rattle.candidates.specs.declared.Query.{Query}
 use Rattle.candidates.specs.Flags.{flagOf, inRing}
@@ -36,7 +36,7 @@ use Rattle.candidates.specs.Post.{termsOf, Rising, Low}
 use Rattle.candidates.proofs.MatchLaws.{in-ring, ring-in, score-stored}
 use Rattle.query.specs.Record.{thresholds, flags, list, candidates, keptOf, Holds}
 use Rattle.query.specs.Post.{Is, LoadedQuery, LoadedThresholds, LoadedList, arriving, Arriving, Reached, Arrived, NewestLow, Stands, KeptList, Change, Updated}
-use Rattle.query.proofs.ChosenLaws.{in-append, in-left, in-right, slots-rise, chosen, serials-of}
+use Rattle.query.proofs.ChosenLaws.{slots-rise, chosen, serials-of}
 use Rattle.query.proofs.KeptLaws.{over-kept}
 use Rattle.query.proofs.RecordLaws.{says-same}
 use Rattle.query.proofs.SettleLaws.{Sixteen, last-positive}
@@ -87,24 +87,24 @@ module _ {w : List ℕ} {q : ℕ} {l : Ranked} (list-is : LoadedList w q l) (lon
 
 -- ---- the slots that departed
 
-append-cancel : {A : Type 0} (xs ys zs : List A) → xs ++ ys ≡ xs ++ zs → ys ≡ zs
-append-cancel [] ys zs e = e
-append-cancel (x ∷ xs) ys zs e = append-cancel xs ys zs (ap (drop 1) e)
+-- no slot stands twice in a window
+ring-apart : (o n : ℕ) → o < slots → n < slots → Ordered (λ i j. i ≡ j → ⊥) (ring o n)
+unfolding ring inRing
+ring-apart o zero h k = tt
+ring-apart o (suc n) h k = (
+  λ j m e. let a = ltb-true ((j + slots - next o) % slots) n (in-ring (next o) n j (omega arith) m .1) in omega arith,
+  ring-apart (next o) n (omega arith) (omega arith),
+)
 
-module _ {w : List ℕ} {o d o′ s newest : ℕ} {ga sa ca : List Message} (change : Change w o d o′ s newest ga sa ca) where
+module _ {w : List ℕ} {o d o′ s newest : ℕ} {aa ga sa ca : List Message} (change : Change w o d o′ s newest aa ga sa ca) where
   -- a slot that departed isn't in the window after it
   gone-apart : (j : ℕ) → In j (ring o d) → inRing o′ (s + length ca) j ≡ true → ⊥
-  unfolding inRing
   gone-apart j m i =
-      let g = in-ring o d j (change .first-below) m in
+      let b = in-ring o (d + s) j (change .first-below) (in-gone j (change .before) m) in
       ⊎-elim
-      (λ k. let same = append-cancel (ring o d) (ring ((o + d) % slots) s) (ring o′ s) (sym (ring-append o d s (change .first-below)) ∙ change .before) in
-      let a : (j + slots - o) % slots < d = ltb-true ((j + slots - o) % slots) d (g .1) in
-      let b : (j + slots - (o + d) % slots) % slots < s = ltb-true ((j + slots - (o + d) % slots) % slots) s (in-ring ((o + d) % slots) s j (omega arith) (subst (In j) (sym same) k) .1) in
-      omega (arith, change .small, change .first-below))
-      (λ k. let p = in-arriving j newest k in
-      false≢true (sym (change .apart (p .1)) ∙ ap (inRing o (d + s)) (sym (p .0)) ∙ in-ring o (d + s) j (change .first-below) (subst (In j) (sym (change .before)) (in-left j (ring o d) (ring o′ s) m)) .1))
-      (in-append j (ring o′ s) (arriving newest) (subst (In j) (change .after) (ring-in o′ (s + length ca) j (change .then-below) (g .0) i)))
+      (λ k. split-apart j (change .before) (ring-apart o (d + s) (change .first-below) (change .small)) m k)
+      (λ k. let p = in-arriving j newest k in false≢true (sym (change .apart (p .1)) ∙ ap (inRing o (d + s)) (sym (p .0)) ∙ b .1))
+      (in-append j (ring o′ s) (arriving newest) (subst (In j) (change .after) (ring-in o′ (s + length ca) j (change .then-below) (b .0) i)))
 
 -- messages in slots that score below a bound
 low-stored : (qs : List Pair) (bound : ℕ) (ms : List Message) → Messages ms → lowSlots qs bound (map stored ms) ≡ true
@@ -123,8 +123,8 @@ low-stored qs bound (x ∷ ms) v e m i =
 module _ {w : List ℕ} {q o d o′ newest : ℕ} {r : Query} {hs : List ℕ} {above b : Bool} (query-is : LoadedQuery w q r)
     (thresholds-are : LoadedThresholds w q hs) (arrives : Arriving w newest r hs above) (reaching : Reached w o d above r hs b)
     {fs w′ : List ℕ} (arrived : Arrived w q newest above fs) (stands : Stands w q o d newest r true) (kept : KeptList w q o d fs w′) where
-  module _ {s : ℕ} {ga sa ca : List Message} {query : Rank.Query} (change : Change w o d o′ s newest ga sa ca) (terms : Terms query)
-      (holds : Holds w q o (d + s) (ga ++ sa) query) where
+  module _ {s : ℕ} {aa ga sa ca : List Message} {query : Rank.Query} (change : Change w o d o′ s newest aa ga sa ca) (terms : Terms query)
+      (holds : Holds w q o (d + s) aa query) where
     abbrev n : ℕ
     n = s + length ca
 
@@ -180,7 +180,7 @@ module _ {w : List ℕ} {q o d o′ newest : ℕ} {r : Query} {hs : List ℕ} {a
             ⊎-elim
             (λ k. absurd (false≢true (sym gone ∙ in-ring o d j (change .first-below) k .1)))
             (λ k. absurd (false≢true (sym out ∙ in-ring o′ n j (change .then-below) (subst (In j) (sym (change .after)) (in-left j (ring o′ s) (arriving newest) k)) .1)))
-            (in-append j (ring o d) (ring o′ s) (subst (In j) (change .before) (ring-in o (d + s) j (change .first-below) h e)))
+            (in-split j (change .before) (ring-in o (d + s) j (change .first-below) h e))
 
         old : inRing o′ n j ≡ false → inRing o d j ≡ false → (b : Bool) → eqb j newest ≡ b → cond b above (flagOf (flags w q) j) ≡ false
         old out gone true e = absurd (inside out (eqb-true j newest e))
@@ -210,13 +210,13 @@ module _ {w : List ℕ} {q o d o′ newest : ℕ} {r : Query} {hs : List ℕ} {a
         ∙ ap₂ (λ (b : Bool) (xs : List ℕ). b && exceedsCells (query .terms) xs (slot w′ j .cells)) (i .1) same-thresholds))
 
     -- THE LAW: the ranking stands
-    same-ranking : ranking query (ga ++ sa) ≡ ranking query (sa ++ ca)
+    same-ranking : ranking query aa ≡ ranking query (sa ++ ca)
     same-ranking =
-        let es = ranking query (ga ++ sa) in
+        let es = ranking query aa in
         let lines-is = holds .settled .ranked in
         let full : length es ≡ query .k = sym (length-map es Rank.line) ∙ sym (ap length lines-is) ∙ found .0 in
         let last : lastOf (list w q) ≡ lastScore es = ap lastOf lines-is ∙ lines-last es in
-        outranked query ga sa ca full (last-positive query (ga ++ sa) (omega (arith, terms .k-least)))
+        outranked query ca (change .split) full (last-positive query aa (omega (arith, terms .k-least)))
         (λ x i. subst (λ (b : ℕ). score (query .terms) (x .pairs) < b) last (low-stored (query .terms) (lastOf (list w q)) ga (valid-gone change) (found .2) x i))
         (λ x i. subst (λ (b : ℕ). score (query .terms) (x .pairs) < b) last (low-stored (query .terms) (lastOf (list w q)) ca (valid-come change) (found .1) x i))
 
@@ -225,7 +225,7 @@ module _ {w : List ℕ} {q o d o′ newest : ℕ} {r : Query} {hs : List ℕ} {a
       says = says-same (kept .keeps) (inl (omega arith)) terms (holds .says);
       settled =
           rw (same-thresholds, same-list)
-          (settled-again query (ga ++ sa) (sa ++ ca) (keptOf w q o (d + s) m) (candidates w′ q o′ n) (holds .settled) same-ranking above-are);
+          (settled-again query aa (sa ++ ca) (keptOf w q o (d + s) m) (candidates w′ q o′ n) (holds .settled) same-ranking above-are);
       flagged = flagged;
       no-threshold = λ i a z. keeps-at (kept .keeps) (thresholdsIn q + i) (inl (omega arith)) ∙ holds .no-threshold i a z;
       listed-most = rw (keeps-at (kept .keeps) (listedIn q) (inl (omega arith))) (holds .listed-most);
@@ -239,7 +239,7 @@ module _ {w : List ℕ} {q o d o′ newest : ℕ} {r : Query} {hs : List ℕ} {a
   kept-again e = record {
     keeps = keeps-wider (omega arith) (omega arith) (kept .keeps);
     untouched = λ z. absurd (true≢false z);
-    right = λ s ga sa ca query covers change counted terms holds. (
+    right = λ s aa ga sa ca query covers change counted terms holds. (
       sym e ∙ answered query-is thresholds-are arrives reaching change terms holds,
       subst (λ (i : ℕ). Holds w′ q o′ i (sa ++ ca) query) (sym counted) (still-holds change terms holds),
     );

@@ -4,7 +4,7 @@ use native.Mathlib.Omega.{arith}
 use mathlib.Core.Path.{_≡_, refl, sym, ap, ap₂, _∙_, subst}
 use mathlib.Core.Bool.{Bool, true, false, cond, _&&_, _||_, and-false, or-comm, or-false, false≢true, true≢false}
 use mathlib.Core.Logic.{inl, inr, ⊎-elim}
-use mathlib.Core.List.{List, [], _∷_, _++_, map, map-append, append-nil}
+use mathlib.Core.List.{List, [], _∷_, _++_, map, map-append}
 use lib.ListN.{length, getD, take, drop, length-take, List·getD-eq-default}
 use lib.Seq.{take-take, getD-take, getD-drop}
 use lib.Dec.{eqb, ltb}
@@ -18,7 +18,8 @@ use Rattle.paper.specs.Sound.{Messages, Terms}
 use Rattle.paper.specs.Threshold.{reached, Settled}
 use Rattle.paper.specs.Layout.{slots, recordAt, recordWords, listedIn, thresholdsIn}
 use Rattle.paper.proofs.Tests as Tests
-use Rattle.paper.proofs.SortLaws.{select-append, select-none}
+use Rattle.paper.proofs.LogLaws.{messages-append, messages-split}
+use Rattle.paper.proofs.SortLaws.{in-append, in-left, in-stay, in-split, select-change}
 use Rattle.paper.proofs.ThresholdLaws.{skip}
 use Rattle.memory.proofs.KeepsLaws.{keeps-refl}
 use Rattle.window.specs.Slot.{slot, stored, ring, window}
@@ -31,7 +32,7 @@ use Rattle.candidates.proofs.MatchLaws.{in-ring, ring-in}
 use Rattle.candidates.proofs.TermLaws.{exceeds-missing}
 use Rattle.query.specs.Record.{thresholds, flags, list, candidates, keptOf, Holds}
 use Rattle.query.specs.Post.{Is, LoadedQuery, LoadedThresholds, Over, arriving, Arriving, Reached, Arrived, Change, reaches, SettledFrom, HasTerms, Covers, Shares, Updated}
-use Rattle.query.proofs.ChosenLaws.{in-append, in-left, in-right, messages-parts, slots-rise, slots-reached, reached-append, unreached-slot}
+use Rattle.query.proofs.ChosenLaws.{slots-rise, slots-reached, reached-append, unreached-slot}
 use Rattle.query.proofs.SettleLaws.{lt-or-ge}
 
 -- ---- the query as it is loaded
@@ -80,9 +81,9 @@ and-same : (a b x : Bool) → (x ≡ true → a ≡ b) → (a && x) ≡ (b && x)
 and-same a b true h = ap (λ (t : Bool). t && true) (h refl)
 and-same a b false h = and-false a ∙ sym (and-false b)
 
-module _ {w : List ℕ} {o d o′ s newest : ℕ} {ga sa ca : List Message} (change : Change w o d o′ s newest ga sa ca) where
+module _ {w : List ℕ} {o d o′ s newest : ℕ} {aa ga sa ca : List Message} (change : Change w o d o′ s newest aa ga sa ca) where
   valid-after : Messages (sa ++ ca)
-  valid-after = messages-parts ga (sa ++ ca) (change .valid) .1
+  valid-after = messages-append sa ca (messages-split (change .split) (change .valid) .1) (change .valid-new)
 
   pub over-after : Over w o′ (s + length ca) (sa ++ ca)
   over-after = record {
@@ -95,10 +96,10 @@ module _ {w : List ℕ} {o d o′ s newest : ℕ} {ga sa ca : List Message} (cha
   }
 
   pub valid-gone : Messages ga
-  valid-gone = messages-parts ga (sa ++ ca) (change .valid) .0
+  valid-gone = messages-split (change .split) (change .valid) .0
 
   pub valid-come : Messages ca
-  valid-come = messages-parts sa ca valid-after .1
+  valid-come = change .valid-new
 
   -- the tests of the code
   module _ {r : Query} {query : Rank.Query} {hs : List ℕ} {above : Bool} (is : Is r query) (arrives : Arriving w newest r hs above) where
@@ -117,7 +118,7 @@ module _ {w : List ℕ} {o d o′ s newest : ℕ} {ga sa ca : List Message} (cha
         ∙ sym (reached-append qs xs ga ca)
 
   -- a query that was right before
-  module _ {q : ℕ} {query : Rank.Query} (holds : Holds w q o (d + s) (ga ++ sa) query) where
+  module _ {q : ℕ} {query : Rank.Query} (holds : Holds w q o (d + s) aa query) where
     abbrev hs : List ℕ
     hs = thresholds w q (length (query .terms))
 
@@ -144,7 +145,7 @@ module _ {w : List ℕ} {o d o′ s newest : ℕ} {ga sa ca : List Message} (cha
         go false p =
             ⊎-elim
             (λ m. holds .flagged j h
-            ∙ ap (λ (t : Bool). t && exceeding j) (in-ring o (d + s) j (change .first-below) (subst (In j) (sym (change .before)) (in-right j (ring o d) (ring o′ s) m)) .1))
+            ∙ ap (λ (t : Bool). t && exceeding j) (in-ring o (d + s) j (change .first-below) (in-stay j (change .before) m) .1))
             (λ m. absurd (eqb-false j newest p (in-arriving j newest m .0)))
             (in-append j (ring o′ s) (arriving newest) (subst (In j) (change .after) (ring-in o′ (s + length ca) j (change .then-below) h i)))
 
@@ -175,14 +176,7 @@ module _ {w : List ℕ} {o d o′ s newest : ℕ} {ga sa ca : List Message} (cha
       unfolding candidates
       same-candidates =
           ap (map (λ j. slot w j .serial))
-          (ap (select flag) (change .before)
-          ∙ select-append flag (ring o d) (ring o′ s)
-          ∙ ap (λ (l : List ℕ). l ++ select flag (ring o′ s)) (select-none flag (ring o d) gone-plain)
-          ∙ sym
-          (ap (select flag) (change .after)
-          ∙ select-append flag (ring o′ s) (arriving newest)
-          ∙ ap (λ (l : List ℕ). select flag (ring o′ s) ++ l) (select-none flag (arriving newest) come-plain)
-          ∙ append-nil (select flag (ring o′ s))))
+          (select-change flag (arriving newest) (change .before) gone-plain come-plain ∙ ap (select flag) (sym (change .after)))
 
       -- whoever exceeds a threshold stays
       same-ring : (j : ℕ) → j < slots → exceeding j ≡ true → inRing o (d + s) j ≡ inRing o′ (s + length ca) j
@@ -193,12 +187,12 @@ module _ {w : List ℕ} {o d o′ s newest : ℕ} {ga sa ca : List Message} (cha
               ⊎-elim
               (λ m. absurd (false≢true (sym (gone-below j m) ∙ x)))
               (λ m. in-ring o′ (s + length ca) j (change .then-below) (subst (In j) (sym (change .after)) (in-left j (ring o′ s) (arriving newest) m)) .1)
-              (in-append j (ring o d) (ring o′ s) (subst (In j) (change .before) (ring-in o (d + s) j (change .first-below) h i)))
+              (in-split j (change .before) (ring-in o (d + s) j (change .first-below) h i))
 
           back : inRing o′ (s + length ca) j ≡ true → inRing o (d + s) j ≡ true
           back i =
               ⊎-elim
-              (λ m. in-ring o (d + s) j (change .first-below) (subst (In j) (sym (change .before)) (in-right j (ring o d) (ring o′ s) m)) .1)
+              (λ m. in-ring o (d + s) j (change .first-below) (in-stay j (change .before) m) .1)
               (λ m. absurd (false≢true (sym (come-below j m) ∙ x)))
               (in-append j (ring o′ s) (arriving newest) (subst (In j) (change .after) (ring-in o′ (s + length ca) j (change .then-below) h i)))
 
@@ -208,7 +202,7 @@ module _ {w : List ℕ} {o d o′ s newest : ℕ} {ga sa ca : List Message} (cha
         says = holds .says;
         settled =
             subst (λ (cs : List ℕ). Settled query (sa ++ ca) (record { thresholds = hs; candidates = cs; list = list w q })) same-candidates
-            (skip query ga sa ca (keptOf w q o (d + s) (length (query .terms))) (holds .settled) unreached);
+            (skip query ca (keptOf w q o (d + s) (length (query .terms))) (change .split) (holds .settled) unreached);
         flagged = λ j h. holds .flagged j h ∙ and-same (inRing o (d + s) j) (inRing o′ (s + length ca) j) (exceeding j) (same-ring j h);
         no-threshold = holds .no-threshold;
         listed-most = holds .listed-most;
@@ -246,8 +240,8 @@ module _ {w : List ℕ} {o d : ℕ} {above : Bool} {r : Query} {hs : List ℕ} w
 -- ---- a query that has none of the terms of the messages that go and come
 
 module _ {w : List ℕ} {q o d o′ newest : ℕ} {set : List Bool} (apart : Shares w q set false) where
-  module _ {s : ℕ} {ga sa ca : List Message} {query : Rank.Query} (covers : Covers w o d newest set) (change : Change w o d o′ s newest ga sa ca)
-      (terms : Terms query) (holds : Holds w q o (d + s) (ga ++ sa) query) where
+  module _ {s : ℕ} {aa ga sa ca : List Message} {query : Rank.Query} (covers : Covers w o d newest set) (change : Change w o d o′ s newest aa ga sa ca)
+      (terms : Terms query) (holds : Holds w q o (d + s) aa query) where
     -- no slot with such terms exceeds a threshold
     missing : (hs : List ℕ) (j : ℕ) → HasTerms w set j → exceedsCells (query .terms) hs (slot w j .cells) ≡ false
     missing hs j has =
@@ -272,7 +266,7 @@ module _ {w : List ℕ} {q o d o′ newest : ℕ} {set : List Bool} (apart : Sha
   unshared = record {
     keeps = keeps-refl (listedIn q) (recordAt q + recordWords) w;
     untouched = λ z. refl;
-    right = λ s ga sa ca query covers change counted terms holds.
+    right = λ s aa ga sa ca query covers change counted terms holds.
         let u = unreached covers change terms holds in
         (sym u, subst (λ (m : ℕ). Holds w q o′ m (sa ++ ca) query) (sym counted) (stays-right change holds u));
   }
@@ -282,8 +276,8 @@ module _ {w : List ℕ} {q o d o′ newest : ℕ} {set : List Bool} (apart : Sha
 module _ {w : List ℕ} {q o d o′ newest : ℕ} {r : Query} {hs : List ℕ} {above b : Bool} (query-is : LoadedQuery w q r)
     (thresholds-are : LoadedThresholds w q hs) (arrives : Arriving w newest r hs above) (reaching : Reached w o d above r hs b) where
   -- what is known of a record that was right before
-  module _ {s : ℕ} {ga sa ca : List Message} {query : Rank.Query} (change : Change w o d o′ s newest ga sa ca) (terms : Terms query)
-      (holds : Holds w q o (d + s) (ga ++ sa) query) where
+  module _ {s : ℕ} {aa ga sa ca : List Message} {query : Rank.Query} (change : Change w o d o′ s newest aa ga sa ca) (terms : Terms query)
+      (holds : Holds w q o (d + s) aa query) where
     pub loaded : Is r query
     loaded = query-is .is query terms (holds .says)
 
@@ -305,7 +299,7 @@ module _ {w : List ℕ} {q o d o′ newest : ℕ} {r : Query} {hs : List ℕ} {a
   skipped e = record {
     keeps = keeps-refl (listedIn q) (recordAt q + recordWords) w;
     untouched = λ z. refl;
-    right = λ s ga sa ca query covers change counted terms holds.
+    right = λ s aa ga sa ca query covers change counted terms holds.
         let a = sym e ∙ answered change terms holds in
         (a, subst (λ (m : ℕ). Holds w q o′ m (sa ++ ca) query) (sym counted) (stays-right change holds (sym a)));
   }
@@ -315,7 +309,7 @@ module _ {w : List ℕ} {q o d o′ newest : ℕ} {r : Query} {hs : List ℕ} {a
   settled-again e arrived settled = record {
     keeps = settled .keeps;
     untouched = λ z. absurd (true≢false z);
-    right = λ s ga sa ca query covers change counted terms holds.
+    right = λ s aa ga sa ca query covers change counted terms holds.
         let is = loaded change terms holds in
         let over = subst (λ (m : ℕ). Over w o′ m (sa ++ ca)) (sym counted) (over-after change) in (
           sym e ∙ answered change terms holds,

@@ -10,7 +10,7 @@ use Rattle.paper.specs.Impact.{top}
 use Rattle.paper.specs.Rank.{lines, ranking}
 use Rattle.paper.specs.Rank as Rank
 use Rattle.paper.specs.Window.{Message}
-use Rattle.paper.specs.Order.{In}
+use Rattle.paper.specs.Order.{In, Split}
 use Rattle.paper.specs.Threshold.{thresholdSum, lastScore, reached, termAt}
 use Rattle.paper.specs.Layout.{slots, recordAt, recordWords, thresholdsIn, serialsIn, scoresIn, flagsIn, listedIn, flagWords}
 use Rattle.paper.specs.Sound.{Messages, Terms}
@@ -162,18 +162,21 @@ pub record KeptList (w : List ℕ) (q o d : ℕ) (fs w′ : List ℕ) : Type 0 w
   pub keeps : Keeps (flagsIn q) (recordAt q + recordWords) w w′
   pub flags-are : Without fs o d (flags w′ q)
 
--- A change of the window: of d + s slots from slot o on, those that hold `ga` go and the s from slot o′ on, which hold `sa`, stay; `ca` come.
-pub record Change (w : List ℕ) (o d o′ s newest : ℕ) (ga sa ca : List Message) : Type 0 where
+-- A change of the window, in which `aa` are: of d + s slots from slot o on, those that hold `ga` go and the s from slot o′ on, which hold `sa`,
+-- stay; `ca` come.
+pub record Change (w : List ℕ) (o d o′ s newest : ℕ) (aa ga sa ca : List Message) : Type 0 where
   pub first-below : o < slots
   pub then-below : o′ < slots
   pub small : d + s < slots
-  pub before : ring o (d + s) ≡ ring o d ++ ring o′ s
+  pub before : Split (ring o (d + s)) (ring o d) (ring o′ s)
   pub after : ring o′ (s + length ca) ≡ ring o′ s ++ arriving newest
+  pub split : Split aa ga sa
   pub gone : window w o d ≡ map stored ga
   pub stay : window w o′ s ≡ map stored sa
   pub come : map (slot w) (arriving newest) ≡ map stored ca
   pub apart : newest < slots → inRing o (d + s) newest ≡ false
-  pub valid : Messages (ga ++ (sa ++ ca))
+  pub valid : Messages aa
+  pub valid-new : Messages ca
 
 -- whether the frame reaches the query: a message that goes or comes exceeds one of its thresholds
 abbrev pub reaches : List ℕ → ℕ → List Message → List Message → Rank.Query → Bool
@@ -196,8 +199,8 @@ pub record Shares (w : List ℕ) (q : ℕ) (set : List Bool) (r : Bool) : Type 0
 pub record Updated (w : List ℕ) (q o d o′ count newest : ℕ) (set : List Bool) (r : Bool) (w′ : List ℕ) : Type 0 where
   pub keeps : Keeps (listedIn q) (recordAt q + recordWords) w w′
   pub untouched : r ≡ false → w′ ≡ w
-  pub right : (s : ℕ) (ga sa ca : List Message) (query : Rank.Query) → Covers w o d newest set → Change w o d o′ s newest ga sa ca → count ≡ s + length ca
-      → Terms query → Holds w q o (d + s) (ga ++ sa) query
+  pub right : (s : ℕ) (aa ga sa ca : List Message) (query : Rank.Query) → Covers w o d newest set → Change w o d o′ s newest aa ga sa ca → count ≡ s + length ca
+      → Terms query → Holds w q o (d + s) aa query
       → (r ≡ reaches w q ga ca query) × Holds w′ q o′ count (sa ++ ca) query
 
 -- a query is written, with nothing kept of it yet

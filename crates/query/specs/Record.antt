@@ -56,7 +56,7 @@ pub record Holds (w : List ℕ) (q o n : ℕ) (ms : List Message) (query : Query
   pub no-serial : ZeroFrom (getD w (listedIn q) 0) (take mostListed (drop (serialsIn q) w))
   pub no-score : ZeroFrom (getD w (listedIn q) 0) (take mostListed (drop (scoresIn q) w))
 
--- a number not in use has a record of zeros
-abbrev pub HoldsAt : List ℕ → ℕ → ℕ → ℕ → List Message → Option Query → Type 0
+-- a number not in use has a record of zeros; `ms` is what each query sees
+abbrev pub HoldsAt : List ℕ → ℕ → ℕ → ℕ → (Query → List Message) → Option Query → Type 0
 HoldsAt w q o n ms none = (i : ℕ) → i < recordWords → getD w (recordAt q + i) 0 ≡ 0
-HoldsAt w q o n ms (some query) = Holds w q o n ms query
+HoldsAt w q o n ms (some query) = Holds w q o n (ms query) query
