@@ -12,7 +12,7 @@ ghost use Rattle.window.specs.Layout.{slots, recordAt};
 ghost use Rattle.window.specs.Terms.{termLimit};
 ghost use Rattle.rank.specs.Listing.{linesOf};
 ghost use Rattle.query.specs.Record.{Says};
-ghost use Rattle.query.specs.Post.{Clamped, InRange, LoadedQuery, LoadedThresholds, LoadedList, Lifted, secure, StoredKept, Finished, Refilled, SettledFrom, Arriving, Reached, Arrived, NewestLow, Stands, KeptList, Covers, Shares, Updated, PutQuery, Registered, Cleared};
+ghost use Rattle.query.specs.Post.{Clamped, InRange, LoadedQuery, LoadedThresholds, LoadedList, Lifted, secure, StoredKept, Finished, Refilled, SettledFrom, Arriving, Reached, Arrived, NewestLow, Stands, KeptList, Covers, Shares, Updated, Packed, PutQuery, Registered, Cleared};
 use candidates::Query;
 use rank::Ranked;
 
@@ -380,8 +380,23 @@ pub fn clear(state: &mut [u8], q: usize)
     }
 }
 
+// The words of a query's pairs, each a term with its weight; 0 past its n terms.
+fn packed(n: usize, terms: [u32; 8], weights: [u32; 8]) -> [u32; 8]
+    requires { ⌜ n ≤ 8 ⌝ }
+    requires { ⌜ ((i : ℕ) → i < n → (getD terms i 0 < 1024) × (getD weights i 0 < 16)) ⌝ }
+    ensures { λ r. ⌜ Packed (side-by-side n terms weights) r ⌝ }
+{
+    let mut pairs = [0u32; 8];
+    let mut i: usize = 0;
+    while i < n {
+        pairs[i] = terms[i] * 16 + weights[i];
+        i += 1;
+    }
+    pairs
+}
+
 // A query is written: the length of its list, how many terms it has, and each with its weight.
-fn put_query(state: &mut [u8], q: usize, k: u32, n: usize, terms: [u32; 16], weights: [u32; 16])
+fn put_query(state: &mut [u8], q: usize, k: u32, n: usize, terms: [u32; 8], weights: [u32; 8])
     requires { ⌜ (length (now state) ≡ stateLength) × (q < numbers) × (n ≤ 8) ⌝ }
     requires { ⌜ ((i : ℕ) → i < n → (getD terms i 0 < 1024) × (getD weights i 0 < 16)) ⌝ }
     ensures { λ _. ⌜ PutQuery q (record { k = k; terms = side-by-side n terms weights }) (words (now (state .entry))) (words (now (state .exit))) ⌝ }
@@ -389,12 +404,8 @@ fn put_query(state: &mut [u8], q: usize, k: u32, n: usize, terms: [u32; 16], wei
     let at = RECORDS + RECORD * q;
     memory::put(state, at, k);
     memory::put(state, at + 1, n as u32);
-    let mut i: usize = 0;
-    while i < n {
-        let pair = terms[i] * 16 + weights[i];
-        memory::put(state, at + PAIRS + i, pair);
-        i += 1;
-    }
+    let pairs = packed(n, terms, weights);
+    memory::store8(state, at + PAIRS, pairs);
 }
 
 // A query is registered over the window.
@@ -403,8 +414,8 @@ pub fn register(
     q: usize,
     k: u32,
     n: usize,
-    terms: [u32; 16],
-    weights: [u32; 16],
+    terms: [u32; 8],
+    weights: [u32; 8],
     first: usize,
     count: usize,
 )
