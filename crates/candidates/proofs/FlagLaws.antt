@@ -1,5 +1,5 @@
 -- Bits of a word: one of them, a word spelled bit by bit, and words in an array. Assumes nothing.
-use Prim.Native.Nat.{ℕ, zero, suc, _+_, _-_, _*_, _/_, _%_, _^_, _<_}
+use Prim.Native.Nat.{ℕ, zero, suc, _+_, _-_, _*_, _/_, _%_, _^_, _≤_, _<_}
 use native.Mathlib.Nat.{mod-lt, le-of-suc-le-suc, not-suc-le-zero, eq-or-lt-of-le, div-one, zero-div, pow-suc, lt-of-lt-of-le}
 use native.Mathlib.Numerals.{add-one}
 use native.Mathlib.Omega.{arith}
@@ -7,7 +7,7 @@ use mathlib.Core.Path.{_≡_, refl, sym, ap, ap₂, _∙_, subst}
 use mathlib.Core.Bool.{Bool, true, false, cond}
 use mathlib.Core.Logic.{⊎-elim}
 use mathlib.Core.List.{List, [], _∷_, _++_, append-assoc}
-use lib.ListN.{length, getD, set, replicate, List·getD-append}
+use lib.ListN.{length, getD, set, replicate, List·getD-append, List·getD-eq-default}
 use lib.Seq.{getD-at, getD-set-same, getD-set-other}
 use lib.Dec.{eqb, ltb}
 use borrow.Author.Tests.{ltb-true, ltb-false, eqb-true, eqb-false, eq-eqb, ne-eqb}
@@ -158,12 +158,24 @@ spells-more test fs g word long s e j h = go (ltb j (32 * g)) refl
         let place : 32 * g + j % 32 ≡ j = omega arith in
         rw (here, getD-set-same fs g word 0 long, e) (bit-spelled test (32 * g) 32 (j % 32) (omega arith) ∙ ap test place)
 
+-- nine words spell a test that fails past the ring
+pub spells-all : (test : ℕ → Bool) (fs : List ℕ) (g : ℕ) → 9 ≤ g → length fs ≡ 9 → Spells test fs g → ((j : ℕ) → slots ≤ j → test j ≡ false)
+    → (j : ℕ) → flagOf fs j ≡ test j
+unfolding flagOf
+spells-all test fs g most nine s past j = go (ltb j (32 * g)) refl
+  where
+    go : (t : Bool) → ltb j (32 * g) ≡ t → flagOf fs j ≡ test j
+    go true e = s j (ltb-true j (32 * g) e)
+    go false e =
+        let high = ltb-false j (32 * g) e in
+        rw (List·getD-eq-default fs 0 {n = j / 32} (omega arith)) (no-bit 32 (j % 32) ∙ sym (past j (omega arith)))
+
 -- ---- the flag of one slot replaced
 
 pub flag-replaced : (fs : List ℕ) (j : ℕ) (b : Bool) (word : ℕ) → j < slots → length fs ≡ 9 → WithBit (getD fs (j / 32) 0) (j % 32) b word
     → WithFlag fs j b (set fs (j / 32) word)
 unfolding flagOf
-flag-replaced fs j b word h l new i k = go (eqb (i / 32) (j / 32)) refl
+flag-replaced fs j b word h l new i = go (eqb (i / 32) (j / 32)) refl
   where
     same-place : i / 32 ≡ j / 32 → (u : Bool) → eqb i j ≡ u → eqb (i % 32) (j % 32) ≡ u
     same-place q true p = let z = eqb-true i j p in eq-eqb (i % 32) (j % 32) (omega arith)

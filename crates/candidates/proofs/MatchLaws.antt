@@ -1,5 +1,5 @@
 -- Matching stored messages is matching paper's. Assumes nothing.
-use Prim.Native.Nat.{ℕ, zero, suc, _+_, _-_, _*_, _%_, _<_}
+use Prim.Native.Nat.{ℕ, zero, suc, _+_, _-_, _*_, _%_, _≤_, _<_}
 use native.Mathlib.Nat.{not-suc-le-zero}
 use native.Mathlib.Omega.{arith}
 use mathlib.Core.Path.{_≡_, refl, sym, ap, ap₂, _∙_, subst}
@@ -8,7 +8,7 @@ use mathlib.Core.Logic.{inl, inr}
 use mathlib.Core.List.{List, [], _∷_, _++_, map, append-assoc, append-nil}
 use lib.Seq.{take-nil}
 use lib.Dec.{eqb, ltb}
-use borrow.Author.Tests.{ltb-true, lt-ltb, eqb-true, eqb-false}
+use borrow.Author.Tests.{ltb-true, lt-ltb, le-ltb, eqb-true, eqb-false}
 use Rattle.paper.specs.Frame.{Pair, Pairs, countWidth, mostPairs}
 use Rattle.paper.specs.Impact.{score}
 use Rattle.paper.specs.Order.{In}
@@ -20,6 +20,7 @@ use Rattle.paper.specs.Window.{Message}
 use Rattle.paper.specs.Layout.{slots}
 use Rattle.paper.proofs.RankLaws.{ranking-more}
 use Rattle.paper.proofs.SortLaws.{select-map}
+use Rattle.paper.proofs.Tests.{and-true}
 use Rattle.impact.specs.Cell.{RisingCells}
 use Rattle.impact.proofs.CellLaws.{lookup-cells, rising-cells}
 use Rattle.rank.specs.Listing.{grown}
@@ -84,29 +85,49 @@ ranking-stored q ms v = ap (grows (q .k) []) (lines-stored (q .terms) ms v) ∙ 
 -- ---- the slots of the window
 
 -- how far slot j is from slot o
-abbrev away : ℕ → ℕ → ℕ
+abbrev pub away : ℕ → ℕ → ℕ
 away o j = (j + slots - o) % slots
 
+pub slot-in : (o n j : ℕ) → inRing o n j ≡ true → j < slots
+unfolding inRing
+slot-in o n j e = ltb-true j slots (and-true (ltb j slots) (ltb (away o j) n) e .0)
+
+pub past-in : (o n j : ℕ) → slots ≤ j → inRing o n j ≡ false
+unfolding inRing
+past-in o n j h = rw (le-ltb j slots h)
+
+-- of a slot, how far it is away decides
+pub ring-test : (o n j : ℕ) → j < slots → ltb (away o j) n ≡ inRing o n j
+unfolding inRing
+ring-test o n j h = rw (lt-ltb j slots h)
+
+pub near : (o n j : ℕ) → inRing o n j ≡ true → away o j < n
+unfolding inRing
+near o n j e = ltb-true (away o j) n (and-true (ltb j slots) (ltb (away o j) n) e .1)
+
+pub in-near : (o n j : ℕ) → j < slots → away o j < n → inRing o n j ≡ true
+in-near o n j h l = sym (ring-test o n j h) ∙ lt-ltb (away o j) n l
+
 pub in-ring : (o n j : ℕ) → o < slots → In j (ring o n) → (j < slots) × (inRing o n j ≡ true)
-unfolding ring inRing
+unfolding ring
 in-ring o zero j h m = absurd m
-in-ring o (suc n) j h (inl e) = (omega arith, lt-ltb (away o j) (suc n) (omega arith))
+in-ring o (suc n) j h (inl e) = (omega arith, in-near o (suc n) j (omega arith) (omega arith))
 in-ring o (suc n) j h (inr m) =
     let ih = in-ring (next o) n j (omega arith) m in
-    let l = ltb-true (away (next o) j) n (ih .1) in
-    (ih .0, lt-ltb (away o j) (suc n) (omega arith))
+    let l = near (next o) n j (ih .1) in
+    (ih .0, in-near o (suc n) j (ih .0) (omega arith))
 
 pub ring-in : (o n j : ℕ) → o < slots → j < slots → inRing o n j ≡ true → In j (ring o n)
-unfolding ring inRing
-ring-in o zero j h k e = absurd (not-suc-le-zero (ltb-true (away o j) 0 e))
+unfolding ring
+ring-in o zero j h k e = absurd (not-suc-le-zero (near o 0 j e))
 ring-in o (suc n) j h k e = go (eqb j o) refl (ring-in (next o) n j (omega arith) k)
   where
     go : (t : Bool) → eqb j o ≡ t → (inRing (next o) n j ≡ true → In j (ring (next o) n)) → In j (ring o (suc n))
     go true q ih = inl (eqb-true j o q)
     go false q ih =
-        let l = ltb-true (away o j) (suc n) e in
+        let l = near o (suc n) j e in
         let ne = eqb-false j o q in
-        inr (ih (lt-ltb (away (next o) j) n (omega arith)))
+        inr (ih (in-near (next o) n j k (omega arith)))
 
 rising-in : (w l : List ℕ) (j : ℕ) → AllRising (map (slot w) l) → In j l → RisingCells (slot w j .cells)
 rising-in w [] j r m = absurd m

@@ -76,57 +76,57 @@ module _ (k : ℕ) (line : ℕ → Line) (test : ℕ → Bool) (o n : ℕ) (l : 
 
 -- what stands once the slots from slot o on, but for the n from slot j on that are left, have the flag that the test gives
 pub record Walked (fs : List ℕ) (test : ℕ → Bool) (o count j n : ℕ) (r : List ℕ) : Type 0 where
-  done : (i : ℕ) → i < slots → In i (ring o count) → In i (ring j n) ⊎ (flagOf r i ≡ test i)
-  others : (i : ℕ) → i < slots → (In i (ring o count) → ⊥) → flagOf r i ≡ flagOf fs i
-  pub either : (i : ℕ) → i < slots → (flagOf r i ≡ flagOf fs i) ⊎ (flagOf r i ≡ test i)
+  done : (i : ℕ) → In i (ring o count) → In i (ring j n) ⊎ (flagOf r i ≡ test i)
+  others : (i : ℕ) → (In i (ring o count) → ⊥) → flagOf r i ≡ flagOf fs i
+  pub either : (i : ℕ) → (flagOf r i ≡ flagOf fs i) ⊎ (flagOf r i ≡ test i)
   within : (i : ℕ) → In i (ring j n) → In i (ring o count)
 
 pub walk-start : (fs : List ℕ) (test : ℕ → Bool) (o count : ℕ) → Walked fs test o count o count fs
-walk-start fs test o count = record { done = λ i h m. inl m; others = λ i h m. refl; either = λ i h. inl refl; within = λ i m. m }
+walk-start fs test o count = record { done = λ i m. inl m; others = λ i m. refl; either = λ i. inl refl; within = λ i m. m }
 
 module _ (fs : List ℕ) (test : ℕ → Bool) (o count j n : ℕ) (r : List ℕ) (l : Walked fs test o count j n r) where
   pub walk-step : (r′ : List ℕ) → 0 < n → WithFlag r j (test j) r′ → Walked fs test o count (next j) (n - 1) r′
   walk-step r′ some new = record {
-    done = λ i h m. ⊎-elim (λ k. here i h (subst (In i) step k)) (λ e. inr (given i h (eqb i j) refl e)) (l .done i h m);
-    others = λ i h m. other i h (λ e. m (l .within i (subst (In i) (sym step) (inl e)))) ∙ l .others i h m;
-    either = λ i h. one i h (eqb i j) refl;
+    done = λ i m. ⊎-elim (λ k. here i (subst (In i) step k)) (λ e. inr (given i (eqb i j) refl e)) (l .done i m);
+    others = λ i m. other i (λ e. m (l .within i (subst (In i) (sym step) (inl e)))) ∙ l .others i m;
+    either = λ i. one i (eqb i j) refl;
     within = λ i m. l .within i (subst (In i) (sym step) (inr m));
   }
     where
       step : ring j n ≡ j ∷ ring (next j) (n - 1)
       step = ring-step j n some
 
-      other : (i : ℕ) → i < slots → (i ≡ j → ⊥) → flagOf r′ i ≡ flagOf r i
-      other i h m = new i h ∙ ap (λ (b : Bool). cond b (test j) (flagOf r i)) (ne-eqb i j m)
+      other : (i : ℕ) → (i ≡ j → ⊥) → flagOf r′ i ≡ flagOf r i
+      other i m = new i ∙ ap (λ (b : Bool). cond b (test j) (flagOf r i)) (ne-eqb i j m)
 
-      this : (i : ℕ) → i < slots → i ≡ j → flagOf r′ i ≡ test i
-      this i h e = new i h ∙ ap (λ (b : Bool). cond b (test j) (flagOf r i)) (eq-eqb i j e) ∙ ap test (sym e)
+      this : (i : ℕ) → i ≡ j → flagOf r′ i ≡ test i
+      this i e = new i ∙ ap (λ (b : Bool). cond b (test j) (flagOf r i)) (eq-eqb i j e) ∙ ap test (sym e)
 
-      given : (i : ℕ) → i < slots → (t : Bool) → eqb i j ≡ t → flagOf r i ≡ test i → flagOf r′ i ≡ test i
-      given i h true e f = this i h (eqb-true i j e)
-      given i h false e f = other i h (eqb-false i j e) ∙ f
+      given : (i : ℕ) (t : Bool) → eqb i j ≡ t → flagOf r i ≡ test i → flagOf r′ i ≡ test i
+      given i true e f = this i (eqb-true i j e)
+      given i false e f = other i (eqb-false i j e) ∙ f
 
-      one : (i : ℕ) → i < slots → (t : Bool) → eqb i j ≡ t → (flagOf r′ i ≡ flagOf fs i) ⊎ (flagOf r′ i ≡ test i)
-      one i h true e = inr (this i h (eqb-true i j e))
-      one i h false e = let s = other i h (eqb-false i j e) in ⊎-elim (λ f. inl (s ∙ f)) (λ f. inr (s ∙ f)) (l .either i h)
+      one : (i : ℕ) (t : Bool) → eqb i j ≡ t → (flagOf r′ i ≡ flagOf fs i) ⊎ (flagOf r′ i ≡ test i)
+      one i true e = inr (this i (eqb-true i j e))
+      one i false e = let s = other i (eqb-false i j e) in ⊎-elim (λ f. inl (s ∙ f)) (λ f. inr (s ∙ f)) (l .either i)
 
-      here : (i : ℕ) → i < slots → In i (j ∷ ring (next j) (n - 1)) → In i (ring (next j) (n - 1)) ⊎ (flagOf r′ i ≡ test i)
-      here i h (inl e) = inr (this i h e)
-      here i h (inr m) = inl m
+      here : (i : ℕ) → In i (j ∷ ring (next j) (n - 1)) → In i (ring (next j) (n - 1)) ⊎ (flagOf r′ i ≡ test i)
+      here i (inl e) = inr (this i e)
+      here i (inr m) = inl m
 
   pub walk-here : 0 < n → In j (ring o count)
   walk-here some = l .within j (subst (In j) (sym (ring-step j n some)) (inl refl))
 
   module _ (none : n ≤ 0) where
-    pub walk-inside : (i : ℕ) → i < slots → In i (ring o count) → flagOf r i ≡ test i
-    walk-inside i h m = ⊎-elim (λ k. absurd (subst (In i) (ring-none j n none) k)) (λ e. e) (l .done i h m)
+    pub walk-inside : (i : ℕ) → In i (ring o count) → flagOf r i ≡ test i
+    walk-inside i m = ⊎-elim (λ k. absurd (subst (In i) (ring-none j n none) k)) (λ e. e) (l .done i m)
 
-    pub walk-outside : (i : ℕ) → i < slots → (In i (ring o count) → ⊥) → flagOf r i ≡ flagOf fs i
+    pub walk-outside : (i : ℕ) → (In i (ring o count) → ⊥) → flagOf r i ≡ flagOf fs i
     walk-outside = l .others
 
 -- a flag that stands as it should
 pub flag-stands : (r : List ℕ) (j : ℕ) (b : Bool) → flagOf r j ≡ b → WithFlag r j b r
-flag-stands r j b e i h = go (eqb i j) refl
+flag-stands r j b e i = go (eqb i j) refl
   where
     go : (t : Bool) → eqb i j ≡ t → flagOf r i ≡ cond t b (flagOf r i)
     go true q = ap (flagOf r) (eqb-true i j q) ∙ e

@@ -5,7 +5,7 @@ use mathlib.Core.Path.{_≡_}
 use mathlib.Core.Bool.{Bool, true, false, cond, _&&_}
 use mathlib.Core.List.{List, [], _∷_, map}
 use lib.ListN.{take, getD}
-use lib.Dec.{eqb, ltb}
+use lib.Dec.{eqb}
 use Rattle.paper.specs.Frame.{Pair}
 use Rattle.paper.specs.Order.{In}
 use Rattle.paper.specs.Rank.{Line}
@@ -38,12 +38,12 @@ abbrev pub WithBit : ℕ → ℕ → Bool → ℕ → Type 0
 WithBit word k b r = (i : ℕ) → i < 32 → getD (bits 32 r) i false ≡ cond (eqb i k) b (getD (bits 32 word) i false)
 
 abbrev pub WithFlag : List ℕ → ℕ → Bool → List ℕ → Type 0
-WithFlag fs j b r = (i : ℕ) → i < slots → flagOf r i ≡ cond (eqb i j) b (flagOf fs i)
+WithFlag fs j b r = (i : ℕ) → flagOf r i ≡ cond (eqb i j) b (flagOf fs i)
 
 -- the flags without those of n slots from slot o on
 pub record Without (fs : List ℕ) (o n : ℕ) (r : List ℕ) : Type 0 where
-  pub gone : (i : ℕ) → i < slots → In i (ring o n) → flagOf r i ≡ false
-  pub others : (i : ℕ) → i < slots → (In i (ring o n) → ⊥) → flagOf r i ≡ flagOf fs i
+  pub gone : (i : ℕ) → In i (ring o n) → flagOf r i ≡ false
+  pub others : (i : ℕ) → (In i (ring o n) → ⊥) → flagOf r i ≡ flagOf fs i
 
 -- ---- one slot
 
@@ -89,13 +89,9 @@ pub record RankedBy (w : List ℕ) (first count : ℕ) (fs : List ℕ) (q : Quer
 
 -- ---- the flags of those that stay candidates
 
--- whether slot j stays a candidate
+-- whether slot j stays a candidate; past the ring nothing does
 abbrev pub stays : List ℕ → ℕ → ℕ → List ℕ → Query → List ℕ → ℕ → Bool
 stays w first count fs q hs j = inRing first count j && flagOf fs j && exceedsIn w q hs j
-
--- the same of any number: past the ring nothing stays
-abbrev pub kept : List ℕ → ℕ → ℕ → List ℕ → Query → List ℕ → ℕ → Bool
-kept w first count fs q hs j = ltb j slots && stays w first count fs q hs j
 
 -- the cells of every slot in the window rise
 abbrev pub RisingRing : List ℕ → ℕ → ℕ → Type 0
@@ -103,13 +99,13 @@ RisingRing w first count = (j : ℕ) → j < slots → inRing first count j ≡ 
 
 pub record KeptBit (w : List ℕ) (first count : ℕ) (fs : List ℕ) (q : Query) (hs : List ℕ) (j r : ℕ) : Type 0 where
   pub small : r < 2
-  pub right : RisingRing w first count → Rising q → r ≡ val (kept w first count fs q hs j)
+  pub right : RisingRing w first count → Rising q → r ≡ val (stays w first count fs q hs j)
 
 abbrev pub SiftedWord : List ℕ → ℕ → ℕ → List ℕ → Query → List ℕ → ℕ → ℕ → Type 0
-SiftedWord w first count fs q hs g r = RisingRing w first count → Rising q → r ≡ spelled (kept w first count fs q hs) (32 * g) 32
+SiftedWord w first count fs q hs g r = RisingRing w first count → Rising q → r ≡ spelled (stays w first count fs q hs) (32 * g) 32
 
 pub record Sifted (w : List ℕ) (first count : ℕ) (fs : List ℕ) (q : Query) (hs : List ℕ) (r : List ℕ) : Type 0 where
-  pub right : RisingRing w first count → Rising q → (j : ℕ) → j < slots → flagOf r j ≡ stays w first count fs q hs j
+  pub right : RisingRing w first count → Rising q → (j : ℕ) → flagOf r j ≡ stays w first count fs q hs j
 
 -- ---- the window scanned
 
@@ -119,4 +115,4 @@ Wanted q set = (i : ℕ) → i < q .n → inSet set (getD (q .terms) i 0 % termL
 
 -- the flags of all in the window that exceed one of the thresholds
 pub record Flagging (w : List ℕ) (first count : ℕ) (q : Query) (hs : List ℕ) (r : List ℕ) : Type 0 where
-  pub right : RisingRing w first count → Rising q → (j : ℕ) → j < slots → flagOf r j ≡ (inRing first count j && exceedsIn w q hs j)
+  pub right : RisingRing w first count → Rising q → (j : ℕ) → flagOf r j ≡ (inRing first count j && exceedsIn w q hs j)

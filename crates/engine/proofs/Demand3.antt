@@ -49,7 +49,10 @@ module _ (N T : ℕ) (s₀ s : List ℕ) (n : ℕ) (start : StartPost N T s₀ n
         settled = all-settled (logOf N T s frames) (words s′) (h .0);
         readings = λ q r p.
             let t = p .right (logOf N T s frames) (h .0) (h .1) in
-            rw (← (h .1)) (t .0, t .1);
+            rw (← (h .1)) (t .0, t .1, t .2);
+        postings = λ t out r out′ p.
+            let x = p .right (logOf N T s frames) (h .0) (h .1) in
+            rw (← (h .1)) (x .0, x .1, λ z. (p .refused z .1, p .refused z .0));
         last = λ first bytes r s₁ e before p.
             let b = holds (fresh N T) begun begun-long before in
             let f : FrameRight (logOf N T s first) s₁ bytes r s′ = p .right (logOf N T s first) (b .0) (b .1) in

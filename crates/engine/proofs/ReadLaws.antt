@@ -4,8 +4,9 @@ use native.Mathlib.Nat.{not-suc-le-zero, le-of-suc-le-suc}
 use native.Mathlib.Omega.{arith}
 use mathlib.Core.Path.{_≡_, refl, sym, ap, _∙_}
 use mathlib.Core.List.{List, [], _∷_, map}
-use lib.ListN.{length, getD}
+use lib.ListN.{length, getD, take}
 use Rattle.paper.specs.Frame.{Pair, Frame, Shape, AllFit, countWidth, weightWidth, termWidth, shape, mostPairs, mostTerms, mostListed, numbers}
+use lib.Seq.{getD-take}
 use Rattle.paper.specs.Frame.Frame.{message, tick, register, unregister}
 use Rattle.paper.specs.Frame.Shape.{refused, accepted}
 use Rattle.paper.specs.Write.{side-by-side}
@@ -35,6 +36,24 @@ pub record Read (bytes terms amounts : List ℕ) (m w : ℕ) (make : List Pair �
   pub least : 1 ≤ m
   pub most : m ≤ mostPairs
   pub fit : (i : ℕ) → i < m → (getD terms i 0 < 2 ^ termWidth) × (getD amounts i 0 < 2 ^ w)
+
+-- as many of the arrays as the pairs take
+side-take : (n m : ℕ) (ts us : List ℕ) → n ≤ m → side-by-side n (take m ts) (take m us) ≡ side-by-side n ts us
+unfolding side-by-side
+side-take zero m ts us h = refl
+side-take (suc n) zero ts us h = absurd (not-suc-le-zero h)
+side-take (suc n) (suc m) [] us h = refl
+side-take (suc n) (suc m) (t ∷ ts) [] h = refl
+side-take (suc n) (suc m) (t ∷ ts) (u ∷ us) h = ap (λ (l : List Pair). record { term = t; amount = u } ∷ l) (side-take n m ts us (le-of-suc-le-suc h))
+
+pub read-eight : {bytes terms amounts ts us : List ℕ} {m w : ℕ} {make : List Pair → Frame} → ts ≡ take 8 terms → us ≡ take 8 amounts
+    → Read bytes terms amounts m w make → m ≤ 8 → Read bytes ts us m w make
+read-eight {bytes} {terms} {amounts} {ts} {us} {m} {w} {make} et eu r h = rw (et, eu) (record {
+  is = r .is ∙ ap (λ (l : List Pair). accepted (make l)) (sym (side-take m 8 terms amounts h));
+  least = r .least;
+  most = r .most;
+  fit = λ i l. let k : i < 8 = omega arith in rw (getD-take 8 terms i 0 k, getD-take 8 amounts i 0 k) (r .fit i l);
+})
 
 -- pairs of an accepted frame, in the arrays
 read-pairs : (bytes : List ℕ) (r : Parsed) (ps : List Pair) (w : ℕ) (make : List Pair → Frame) (m : ℕ) → m ≡ length ps → shape bytes ≡ accepted (make ps)

@@ -7,7 +7,6 @@ use mathlib.Core.List.{List, [], _∷_, map}
 use mathlib.Core.Option.{Option, none, some}
 use lib.ListN.{length, getD, take, drop, length-take, length-drop}
 use lib.Seq.{getD-take, getD-drop, ext-getD}
-use borrow.Author.Tests.{lt-ltb}
 use Rattle.paper.specs.Frame.{Pair, mostListed}
 use Rattle.paper.specs.Rank.{Query}
 use Rattle.paper.specs.Sort.{select}
@@ -18,6 +17,7 @@ use Rattle.rank.specs.Listing.{listed}
 use Rattle.window.specs.Slot.{Slot, slot, ring, window, next}
 use Rattle.candidates.specs.Match.{exceedsCells}
 use Rattle.candidates.specs.Flags.{flagOf, inRing}
+use Rattle.candidates.proofs.MatchLaws.{slot-in, in-near}
 use Rattle.query.specs.Record.{keptOf, thresholds, flags, list, candidates, HoldsAt}
 use Rattle.engine.specs.Inner.{SameRecord}
 
@@ -46,13 +46,13 @@ abbrev Among : ℕ → ℕ → ℕ → Type 0
 Among o n j = (j < slots) × (inRing o n j ≡ true)
 
 among-from : (o n i m p : ℕ) → o < slots → n ≤ slots → i + m ≤ n → p ≡ (o + i) % slots → All (Among o n) (ring p m)
-unfolding ring inRing
+unfolding ring
 among-from o n i zero p ho hn h e = tt
 among-from o n i (suc m) p ho hn h e =
     let small : p < slots = omega arith in
     let place : (p + slots - o) % slots ≡ i = omega arith in
     let onward : next p ≡ (o + suc i) % slots = omega arith in
-    ((small, lt-ltb ((p + slots - o) % slots) n (omega arith)), among-from o n (suc i) m (next p) ho hn (omega arith) onward)
+    ((small, in-near o n p small (omega arith)), among-from o n (suc i) m (next p) ho hn (omega arith) onward)
 
 -- windows over slots that are the same
 pub window-same : (w w′ : List ℕ) (o n i m p : ℕ) → ((j : ℕ) → j < slots → inRing o n j ≡ true → slot w′ j ≡ slot w j)
@@ -112,10 +112,11 @@ module _ (w w′ : List ℕ) (q : ℕ) (long : length w′ ≡ length w) (same :
     same-kept-of : (m : ℕ) → m ≤ 8 → keptOf w′ q o n m ≡ keptOf w q o n m
     same-kept-of m h = λ i. record { thresholds = same-thresholds m h i; candidates = same-candidates i; list = same-list i }
 
-    same-flag : (qs : List Pair) (m : ℕ) → m ≤ 8 → (j : ℕ) → j < slots → (b : Bool) → inRing o n j ≡ b
+    same-flag : (qs : List Pair) (m : ℕ) → m ≤ 8 → (j : ℕ) (b : Bool) → inRing o n j ≡ b
         → (b && exceedsCells qs (thresholds w′ q m) (slot w′ j .cells)) ≡ (b && exceedsCells qs (thresholds w q m) (slot w j .cells))
-    same-flag qs m h j l true e = ap₂ (λ (hs : List ℕ) (x : Slot). exceedsCells qs hs (x .cells)) (same-thresholds m h) (slots-same j l e)
-    same-flag qs m h j l false e = refl
+    same-flag qs m h j true e =
+        ap₂ (λ (hs : List ℕ) (x : Slot). exceedsCells qs hs (x .cells)) (same-thresholds m h) (slots-same j (slot-in o n j e) e)
+    same-flag qs m h j false e = refl
 
     -- a record that holds what it should still does
     pub holds-still : (ms : Query → List Message) (x : Option Query) → ((y : Query) → x ≡ some y → length (y .terms) ≤ 8) → HoldsAt w q o n ms x → HoldsAt w′ q o n ms x
@@ -130,7 +131,7 @@ module _ (w w′ : List ℕ) (q : ℕ) (long : length w′ ≡ length w) (same :
             pairs = λ i l. word-same pairsOffset i (omega arith) ∙ h .says .pairs i l;
           };
           settled = subst (Settled x (ms x)) (sym (same-kept-of m few)) (h .settled);
-          flagged = λ j l. ap (λ (fs : List ℕ). flagOf fs j) same-flags ∙ h .flagged j l ∙ sym (same-flag (x .terms) m few j l (inRing o n j) refl);
+          flagged = λ j. ap (λ (fs : List ℕ). flagOf fs j) same-flags ∙ h .flagged j ∙ sym (same-flag (x .terms) m few j (inRing o n j) refl);
           no-threshold = λ i l u. word-same thresholdsOffset i (omega arith) ∙ h .no-threshold i l u;
           listed-most = let e = same listedOffset (omega arith) in let l = h .listed-most in omega arith;
           no-serial = rw (same listedOffset (omega arith), same-part serialsOffset mostListed (omega arith)) (h .no-serial);

@@ -23,6 +23,7 @@ use Rattle.window.specs.Cursor.{Moved}
 use Rattle.window.proofs.RingLaws.{ring-length, moved-below, moved-parts}
 use Rattle.window.proofs.SlotLaws.{window-kept}
 use Rattle.candidates.specs.Flags.{inRing}
+use Rattle.candidates.proofs.MatchLaws.{ring-test}
 use Rattle.query.specs.Record.{HoldsAt}
 use Rattle.query.specs.Post.{Change, arriving}
 use Rattle.engine.specs.declared.Reply.{Reply}
@@ -34,10 +35,9 @@ use Rattle.engine.proofs.SameLaws.{same-thresholds, holds-still}
 
 -- the slot after a window isn't in it
 pub outside : (o n : ℕ) → o < slots → n < slots → inRing o n ((o + n) % slots) ≡ false
-unfolding inRing
 outside o n h k =
     let e : ((o + n) % slots + slots - o) % slots ≡ n = omega arith in
-    le-ltb (((o + n) % slots + slots - o) % slots) n (omega arith)
+    sym (ring-test o n ((o + n) % slots) (omega arith)) ∙ le-ltb (((o + n) % slots + slots - o) % slots) n (omega arith)
 
 -- The memory once the header and an arriving message are written and no record is updated yet.
 pub record Prepared (f : Frame) (w : List ℕ) (o n o′ n′ newest : ℕ) (w₂ : List ℕ) : Type 0 where

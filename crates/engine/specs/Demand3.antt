@@ -4,14 +4,16 @@ use Prim.Native.Nat.{ℕ}
 use mathlib.Core.Path.{_≡_}
 use mathlib.Core.List.{List, [], _∷_, _++_}
 use Rattle.paper.specs.Layout.{stateLength}
-use Rattle.paper.specs.Log.{Log, Call, fresh, replay, judgeList, listed}
+use Rattle.paper.specs.Log.{Log, Call, fresh, replay, judgeList, listed, judgePostings, posted}
+use lib.ListN.{length}
 use Rattle.paper.specs.Demand3.{AllSettled, Answered}
 use Rattle.memory.specs.Words.{words}
-use Rattle.rank.specs.Listing.{linesOf}
+use Rattle.rank.specs.Listing.{linesOf, Tidy}
 use Rattle.engine.specs.declared.Reply.{Reply}
 use Rattle.engine.specs.declared.Listing.{Listing}
+use Rattle.engine.specs.declared.Found.{Found}
 use Rattle.engine.specs.Represents.{keeping}
-use Rattle.engine.specs.Post.{callOf, replyOf, FramePost, ListPost}
+use Rattle.engine.specs.Post.{callOf, replyOf, FramePost, ListPost, postedInto, PostingsPost}
 
 -- frames handed one after another, each on the memory as the one before left it, chained by the promise of `frame`
 pub data Frames : List ℕ → List (List ℕ) → List ℕ → Type 0 where
@@ -31,9 +33,14 @@ pub record Demand3 (N T : ℕ) (s : List ℕ) (frames : List (List ℕ)) (s′ :
   -- threshold in one of its terms; while its list is full the threshold sum is below the last listed score, and no threshold below the top of
   -- its scale could be one higher without reaching it; while it is short every threshold is 0": `Settled` of each registered query
   pub settled : AllSettled (logOf N T s frames) (keeping (words s′))
-  -- "as a reading returns it": serials, scores and number of entries, or 10 where the log has no such query
+  -- "as a reading returns it": serials, scores and number of entries, the unused ones 0, or 10 where the log has no such query
   pub readings : (n : ℕ) (r : Listing) → ListPost s′ n r
-      → (r .number ≡ judgeList 0 (logOf N T s frames) stateLength 0 n) × (linesOf (r .list) ≡ listed 0 (logOf N T s frames) stateLength 0 n)
+      → (r .number ≡ judgeList 0 (logOf N T s frames) stateLength 0 n) × (linesOf (r .list) ≡ listed 0 (logOf N T s frames) stateLength 0 n) × Tidy (r .list)
+  -- "A posting reading .. returns how many there are and writes each one's serial and impact"; refused, it writes nothing
+  pub postings : (t : ℕ) (out : List ℕ) (r : Found) (out′ : List ℕ) → PostingsPost s′ t out r out′
+      → (r .number ≡ judgePostings (logOf N T s frames) stateLength (length out) t)
+      × (r .number ≡ 0 → (r .count ≡ length (posted (logOf N T s frames) t)) × (out′ ≡ postedInto (logOf N T s frames) t out))
+      × ((r .number ≡ 0 → ⊥) → (r .count ≡ 0) × (out′ ≡ out))
   -- "A query registered before and after the last frame is marked by it exactly when an arriving or departing message has, in one of its terms,
   -- an impact above the threshold it had there before that frame; unmarked, its thresholds, candidates and list are as they were"
   pub last : (first : List (List ℕ)) (bytes : List ℕ) (r : Reply) (s₁ : List ℕ) → frames ≡ first ++ (bytes ∷ []) → Frames s first s₁ → FramePost s₁ bytes r s′

@@ -1,7 +1,7 @@
 // The engine: frames in, a ranked list for each registered query kept in lent memory.
 ghost use mathlib.Core.Path.{_≡_};
 ghost use Prim.Native.Nat.{ℕ, _+_, _*_, _%_, _<_, _≤_, _^_};
-ghost use lib.ListN.{length, getD, replicate};
+ghost use lib.ListN.{length, getD, replicate, take};
 ghost use Rattle.paper.specs.Frame.{Frame, numbers, termWidth, countWidth, weightWidth, mostPairs, mostTerms, mostListed};
 ghost use Rattle.paper.specs.Write.{side-by-side};
 ghost use Rattle.paper.specs.Window.{mostMessages};
@@ -236,8 +236,8 @@ fn register(
     number: usize,
     k: u32,
     n: usize,
-    terms: [u32; 16],
-    weights: [u32; 16],
+    terms: [u32; 8],
+    weights: [u32; 8],
 ) -> Reply
     requires { ⌜ length (now state) ≡ stateLength ⌝ }
     requires { ⌜ (number < numbers) × (1 ≤ k) × (k ≤ mostListed) × (1 ≤ n) × (n ≤ mostTerms) ⌝ }
@@ -282,6 +282,19 @@ fn unregister(state: &mut [u8], time: u32, number: usize) -> Reply
     }
 }
 
+// The first eight of sixteen: what a query has of a frame's pairs.
+fn first_eight(a: [u32; 16]) -> [u32; 8]
+    ensures { λ r. ⌜ r ≡ take 8 a ⌝ }
+{
+    let mut few = [0u32; 8];
+    let mut i: usize = 0;
+    while i < 8 {
+        few[i] = a[i];
+        i += 1;
+    }
+    few
+}
+
 pub fn frame(state: &mut [u8], bytes: &[u8]) -> Reply
     ensures { λ r. ⌜ FramePost (now (state .entry)) (now (bytes .entry)) r (now (state .exit)) ⌝ }
 {
@@ -304,7 +317,11 @@ pub fn frame(state: &mut [u8], bytes: &[u8]) -> Reply
             number,
             k,
             terms: n,
-        } => register(state, time, number as usize, k, n, terms, amounts),
+        } => {
+            let few = first_eight(terms);
+            let weights = first_eight(amounts);
+            register(state, time, number as usize, k, n, few, weights)
+        }
         Kind::Unregister { time, number } => unregister(state, time, number as usize),
         Kind::Refused(r) => refused(r),
     }

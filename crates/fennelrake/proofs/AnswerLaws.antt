@@ -90,7 +90,7 @@ zeros zero i = refl
 zeros (suc n) zero = refl
 zeros (suc n) (suc i) = zeros n i
 
-none-tidy : Tidy noEntry
+pub none-tidy : Tidy noEntry
 none-tidy = record { serials = λ i _. zeros mostListed i; scores = λ i _. zeros mostListed i }
 
 none-listed : linesOf noEntry ≡ []

@@ -13,7 +13,7 @@ use Rattle.paper.specs.Demand3.{replyTo, markedBy, Answered}
 use Rattle.paper.proofs.MarkLaws.{answered-by-log}
 use Rattle.memory.specs.Words.{words}
 use Rattle.rank.specs.Listing as Listing
-use Rattle.rank.specs.Listing.{linesOf}
+use Rattle.rank.specs.Listing.{linesOf, Tidy}
 use Rattle.engine.specs.Represents.{Represents, keeping}
 use Rattle.engine.specs.Post.{replyOf, StartPost}
 use Rattle.engine.proofs.RepresentsLaws.{all-settled}
@@ -21,6 +21,7 @@ use Rattle.engine.proofs.Demand3.{begun, begun-long}
 use Rattle.fennelrake.specs.Entry.{frameAnswer, listAnswer, heardReply, heardListing, FrameEntry, ListEntry}
 use Rattle.fennelrake.specs.Demand3.{callOf, Calls, logOf, Demand3}
 use Rattle.fennelrake.specs.Demand3.Calls.{none-left, handed}
+use Rattle.fennelrake.proofs.AnswerLaws.{none-tidy}
 use Rattle.fennelrake.proofs.LentLaws.{after-enough, reply-enough, marked-enough, after-short, reply-short, list-enough, lines-enough, list-short, lines-short}
 
 -- enough bytes, or too few
@@ -87,20 +88,23 @@ holds log is l (handed {s = s} {s′ = s′} {bytes = bytes} {a = a} {a′ = a�
 module _ (log : Log) (s : List ℕ) (n : ℕ) (a a′ : List ℕ) (r : ℕ) (is : Represents log (words s)) (l : length s ≡ stateLength) (p : ListEntry s n a r a′) where
   abbrev Heard : Type 0
   Heard =
-      (r ≡ judgeList listAnswer log stateLength (length a) n) × (linesOf (heardListing r a′ .list) ≡ listed listAnswer log stateLength (length a) n)
+      (r ≡ judgeList listAnswer log stateLength (length a) n)
+      × (linesOf (heardListing r a′ .list) ≡ listed listAnswer log stateLength (length a) n)
+      × Tidy (heardListing r a′ .list)
 
   heard-enough : listAnswer ≤ length a → Heard
   heard-enough h =
       let t = p .enough h .right log is l in (
         t .0 ∙ ap (λ (x : ℕ). judgeList 0 log x 0 n) l ∙ sym (list-enough listAnswer log stateLength (length a) n h),
         t .1 ∙ ap (λ (x : ℕ). listed 0 log x 0 n) l ∙ sym (lines-enough listAnswer log stateLength (length a) n h),
+        t .2,
       )
 
   heard-short : length a < listAnswer → Heard
   unfolding Listing.listed
   heard-short h =
       rw (p .short h)
-      (sym (list-short listAnswer log stateLength (length a) n h), sym (lines-short listAnswer log stateLength (length a) n h))
+      (sym (list-short listAnswer log stateLength (length a) n h), sym (lines-short listAnswer log stateLength (length a) n h), none-tidy)
 
   heard : Heard
   heard = by-length listAnswer (length a) heard-enough heard-short
@@ -119,6 +123,9 @@ module _ (N T : ℕ) (s₀ s : List ℕ) (n : ℕ) (start : StartPost N T s₀ n
       record {
         settled = all-settled (logOf N T calls) (words s′) (h .0);
         readings = λ q a a′ r p. heard (logOf N T calls) s′ q a a′ r (h .0) (h .1) p;
+        postings = λ t out r out′ p.
+            let x = p .right (logOf N T calls) (h .0) (h .1) in
+            rw (← (h .1)) (x .0, x .1, λ z. (p .refused z .1, p .refused z .0));
         last = λ first bytes a a′ s₁ r e before p.
             let b = left before in
             step (logOf N T first) s₁ bytes a r s′ a′ (b .0) (b .1) p .answered;

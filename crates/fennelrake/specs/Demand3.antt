@@ -5,13 +5,13 @@ use mathlib.Core.Path.{_≡_}
 use mathlib.Core.List.{List, [], _∷_, _++_}
 use lib.ListN.{length}
 use Rattle.paper.specs.Layout.{stateLength}
-use Rattle.paper.specs.Log.{Log, Call, fresh, replay, judgeList, listed}
+use Rattle.paper.specs.Log.{Log, Call, fresh, replay, judgeList, listed, judgePostings, posted}
 use Rattle.paper.specs.Demand3.{AllSettled, Answered}
 use Rattle.memory.specs.Words.{words}
-use Rattle.rank.specs.Listing.{linesOf}
+use Rattle.rank.specs.Listing.{linesOf, Tidy}
 use Rattle.engine.specs.Represents.{keeping}
-use Rattle.engine.specs.Post.{replyOf}
-use Rattle.fennelrake.specs.Entry.{frameAnswer, listAnswer, heardReply, heardListing, FrameEntry, ListEntry}
+use Rattle.engine.specs.Post.{replyOf, postedInto, PostingsPost}
+use Rattle.fennelrake.specs.Entry.{frameAnswer, listAnswer, heardReply, heardListing, heardFound, FrameEntry, ListEntry}
 
 -- what the paper log is fed: the bytes and the lengths lent
 abbrev pub callOf : (s bytes a : List ℕ) → Call
@@ -29,10 +29,16 @@ logOf N T calls = replay frameAnswer (fresh N T) calls
 pub record Demand3 (N T : ℕ) (s : List ℕ) (calls : List Call) (s′ : List ℕ) : Type 0 where
   -- "its kept list .. while it is short every threshold is 0", for each registered query
   pub settled : AllSettled (logOf N T calls) (keeping (words s′))
-  -- "as a reading returns it": what the host hears, whatever it lends
+  -- "as a reading returns it": what the host hears, the unused places 0, whatever it lends
   pub readings : (n : ℕ) (a a′ : List ℕ) (r : ℕ) → ListEntry s′ n a r a′
       → (r ≡ judgeList listAnswer (logOf N T calls) stateLength (length a) n)
       × (linesOf (heardListing r a′ .list) ≡ listed listAnswer (logOf N T calls) stateLength (length a) n)
+      × Tidy (heardListing r a′ .list)
+  -- "A posting reading .. returns how many there are and writes each one's serial and impact"; refused, it writes nothing
+  pub postings : (t : ℕ) (out : List ℕ) (r : ℕ) (out′ : List ℕ) → PostingsPost s′ t out (heardFound r) out′
+      → (heardFound r .number ≡ judgePostings (logOf N T calls) stateLength (length out) t)
+      × (heardFound r .number ≡ 0 → (heardFound r .count ≡ length (posted (logOf N T calls) t)) × (out′ ≡ postedInto (logOf N T calls) t out))
+      × ((heardFound r .number ≡ 0 → ⊥) → (heardFound r .count ≡ 0) × (out′ ≡ out))
   -- "A query registered before and after the last frame is marked by it exactly when ..; unmarked, its thresholds, candidates and list are as they
   -- were"
   pub last : (first : List Call) (bytes a a′ s₁ : List ℕ) (r : ℕ) → calls ≡ first ++ (callOf s₁ bytes a ∷ []) → Calls s first s₁

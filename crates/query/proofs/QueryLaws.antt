@@ -24,7 +24,7 @@ use Rattle.query.specs.Post.{Clamped, InRange, Is, LoadedQuery, LoadedTh
 use Rattle.query.proofs.FillLaws.{Filled}
 
 -- one word of a part of the memory
-part-at : (w : List ℕ) (a i : ℕ) → i < 8 → getD (take 8 (drop a w)) i 0 ≡ getD w (a + i) 0
+pub part-at : (w : List ℕ) (a i : ℕ) → i < 8 → getD (take 8 (drop a w)) i 0 ≡ getD w (a + i) 0
 part-at w a i h = getD-take 8 (drop a w) i 0 h ∙ getD-drop a w i 0
 
 -- ---- a query's pairs
@@ -81,7 +81,7 @@ module _ (w : List ℕ) (q : ℕ) (r : Query) (k : Clamped 0 16 (getD w (recordA
         let most = v .terms .at-most in
         let l : i < 8 = omega arith in
         let range = weight-range (query .terms) (v .terms .fit) (v .terms .above-zero) i h in
-        let e = apart (range .1) (part-at w (pairsIn q) i l ∙ says .pairs i h) in
+        let e = apart (range .1) (part-at w (pairsIn q) i l ∙ says .pairs i l) in
         (ts .each i l ∙ e .0, us .each i l .is (omega arith) (omega arith) ∙ e .1)
 
     is-query : Is r query
@@ -132,4 +132,4 @@ module _ {w : List ℕ} {q : ℕ} {query : Rank.Query} (terms : Terms query) (sa
   term-said i h =
       let u = weight-range (query .terms) (terms .terms .fit) (terms .terms .above-zero) i h in
       let t = term-range (query .terms) (terms .terms .fit) i h in
-      omega (arith, says .pairs i h)
+      omega (arith, says .pairs i (omega (arith, terms .terms .at-most)))

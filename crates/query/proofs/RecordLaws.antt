@@ -22,7 +22,7 @@ use Rattle.paper.proofs.SortLaws.{select-in}
 use Rattle.memory.specs.Keeps.{Keeps}
 use Rattle.memory.proofs.KeepsLaws.{keeps-at, keeps-part}
 use Rattle.window.specs.Slot.{slot, ring}
-use Rattle.candidates.proofs.MatchLaws.{in-ring}
+use Rattle.candidates.proofs.MatchLaws.{slot-in, in-ring}
 use Rattle.candidates.specs.Match.{exceedsCells}
 use Rattle.candidates.specs.Flags.{flagOf, inRing}
 use Rattle.query.specs.Record.{thresholds, flags, list, candidates, Says, Holds, HoldsAt}
@@ -31,6 +31,15 @@ use Rattle.query.specs.Record.{thresholds, flags, list, candidates, Says
 map-agree : {A B : Type 0} (f g : A → B) (l : List A) → ((x : A) → In x l → f x ≡ g x) → map f l ≡ map g l
 map-agree f g [] h = refl
 map-agree f g (x ∷ l) h = ap₂ _∷_ (h x (inl refl)) (map-agree f g l (λ y m. h y (inr m)))
+
+-- a candidate's test reads its slot, where that is in the window
+pub cells-same : (w w′ : List ℕ) (qs : List Pair) (hs : List ℕ) (o n j : ℕ) → (inRing o n j ≡ true → slot w′ j ≡ slot w j)
+    → (inRing o n j && exceedsCells qs hs (slot w j .cells)) ≡ (inRing o n j && exceedsCells qs hs (slot w′ j .cells))
+cells-same w w′ qs hs o n j same = go (inRing o n j) same
+  where
+    go : (b : Bool) → (b ≡ true → slot w′ j ≡ slot w j) → (b && exceedsCells qs hs (slot w j .cells)) ≡ (b && exceedsCells qs hs (slot w′ j .cells))
+    go true e = ap (λ x. exceedsCells qs hs (x .cells)) (sym (e refl))
+    go false e = refl
 
 -- ---- words that are left alone
 
@@ -43,11 +52,11 @@ module _ {a e : ℕ} {w w′ : List ℕ} (kept : Keeps a e w w′) where
   part-same out i n l h = keeps-part kept i n (⊎-elim (λ d. inl (omega arith)) (λ d. inr (omega arith)) out)
 
   -- the query stands before what is kept of it
-  pub says-same : {q : ℕ} {query : Query} → (listedIn q ≤ a) ⊎ (e ≤ recordAt q) → Terms query → Says w q query → Says w′ q query
-  says-same {q} {query} out t s = record {
+  pub says-same : {q : ℕ} {query : Query} → (listedIn q ≤ a) ⊎ (e ≤ recordAt q) → Says w q query → Says w′ q query
+  says-same {q} {query} out s = record {
     k = word-same out (recordAt q) (omega arith) (omega arith) ∙ s .k;
     size = word-same out (sizeIn q) (omega arith) (omega arith) ∙ s .size;
-    pairs = λ i h. let m = t .terms .at-most in word-same out (pairsIn q + i) (omega arith) (omega arith) ∙ s .pairs i h;
+    pairs = λ i h. word-same out (pairsIn q + i) (omega arith) (omega arith) ∙ s .pairs i h;
   }
 
   -- a whole record
@@ -86,19 +95,14 @@ module _ {a e : ℕ} {w w′ : List ℕ} (kept : Keeps a e w w′) where
           let m = t .terms .at-most in
           let hs = thresholds-same (length (query .terms)) (omega arith) in
           record {
-            says = says-same (⊎-elim (λ d. inl (omega arith)) inr out) t (h .says);
+            says = says-same (⊎-elim (λ d. inl (omega arith)) inr out) (h .says);
             settled = rw (hs, candidates-same, list-same) (h .settled);
-            flagged = λ j l. rw (flags-same, hs) (h .flagged j l ∙ cells (query .terms) (thresholds w q (length (query .terms))) j l (inRing o n j) refl);
+            flagged = λ j. rw (flags-same, hs) (h .flagged j ∙ cells-same w w′ (query .terms) (thresholds w q (length (query .terms))) o n j (λ e. same j (slot-in o n j e) e));
             no-threshold = λ i l k. word-same out (thresholdsIn q + i) (omega arith) (omega arith) ∙ h .no-threshold i l k;
             listed-most = rw size-same (h .listed-most);
             no-serial = rw (size-same, serials-same) (h .no-serial);
             no-score = rw (size-same, scores-same) (h .no-score);
           }
-        where
-          cells : (qs : List Pair) (hs : List ℕ) (j : ℕ) → j < slots → (b : Bool) → inRing o n j ≡ b
-              → (b && exceedsCells qs hs (slot w j .cells)) ≡ (b && exceedsCells qs hs (slot w′ j .cells))
-          cells qs hs j l true e = ap (λ x. exceedsCells qs hs (x .cells)) (sym (same j l e))
-          cells qs hs j l false e = refl
 
       pub holds-at-same : (ms : Query → List Message) (x : Option Query) → ((query : Query) → x ≡ some query → Terms query) → HoldsAt w q o n ms x → HoldsAt w′ q o n ms x
       holds-at-same ms none t h = λ i l. word-same out (recordAt q + i) (omega arith) (omega arith) ∙ h i l

@@ -2,23 +2,28 @@
 use Prim.Native.Nat.{ℕ, _+_, _*_, _≤_, _<_}
 use native.Mathlib.Omega.{arith}
 use mathlib.Core.Path.{_≡_, refl, sym, ap, _∙_}
+use mathlib.Core.Bool.{Bool, true, false}
 use mathlib.Core.List.{List}
-use lib.ListN.{length, getD, set}
+use lib.ListN.{length, getD, set, length-set, List·getD-eq-default}
 use lib.Seq.{getD-set-same, getD-set-other}
+use lib.Dec.{ltb}
 use borrow.Author.Count.{below-more}
-use Rattle.paper.specs.Frame.{numbers}
+use Rattle.paper.specs.Frame.{numbers, Pair}
+use borrow.Author.Tests.{ltb-true, ltb-false}
 use Rattle.paper.specs.Rank as Rank
+use Rattle.paper.specs.Threshold.{termAt, weightAt}
 use Rattle.paper.specs.Write.{side-by-side}
 use Rattle.paper.specs.Layout.{stateLength, slots, recordAt, sizeIn, pairsIn, listedIn}
 use Rattle.paper.proofs.WriteLaws.{length-side}
 use Rattle.memory.specs.Words.{words, putWord}
-use Rattle.memory.specs.Keeps.{Keeps}
+use Rattle.memory.specs.Keeps.{Keeps, Stored}
 use Rattle.memory.proofs.WordLaws.{put-word, put-length, words-length}
 use Rattle.memory.proofs.KeepsLaws.{keeps-refl, keeps-trans, keeps-wider, keeps-more}
 use Rattle.candidates.specs.declared.Query.{Query}
 use Rattle.candidates.proofs.TermLaws.{side-at}
-use Rattle.query.specs.Post.{LoadedQuery, Refilled, PutQuery, Registered}
+use Rattle.query.specs.Post.{LoadedQuery, Refilled, PutQuery, Registered, Packed}
 use Rattle.query.proofs.KeptLaws.{over-kept}
+use Rattle.query.proofs.QueryLaws.{part-at}
 
 -- ---- one word written
 
@@ -35,47 +40,52 @@ module _ (s : List ℕ) {s′ : List ℕ} (a v : ℕ) (put : s′ ≡ putWord s 
   keeps-one : {x y : ℕ} {w : List ℕ} → x ≤ a → a < y → Keeps x y w (words s) → Keeps x y w (words s′)
   keeps-one h k p = rw written (keeps-more p a v h k)
 
--- ---- the loop: i of the pairs are written
+-- ---- the loop: i of the pairs are packed
 
-pub record Putting (q n : ℕ) (ts us s₀ s : List ℕ) (i : ℕ) : Type 0 where
+pub record Packing (n : ℕ) (ts us ps : List ℕ) (i : ℕ) : Type 0 where
   pub bound : i ≤ n
-  pub long : length s ≡ length s₀
-  pub keeps : Keeps (pairsIn q) (listedIn q) (words s₀) (words s)
-  pub pairs : (j : ℕ) → j < i → getD (words s) (pairsIn q + j) 0 ≡ getD ts j 0 * 16 + getD us j 0
+  pub wide : length ps ≡ 8
+  pub done : (j : ℕ) → j < i → getD ps j 0 ≡ getD ts j 0 * 16 + getD us j 0
+  pub rest : (j : ℕ) → i ≤ j → getD ps j 0 ≡ 0
 
-pub putting-none : (q n : ℕ) (ts us s : List ℕ) {i : ℕ} → i ≡ 0 → Putting q n ts us s s i
-putting-none q n ts us s z = record { bound = omega arith; long = refl; keeps = keeps-refl (pairsIn q) (listedIn q) (words s); pairs = λ j h. absurd (omega arith) }
-
-pub putting-more : {q n : ℕ} {ts us s₀ : List ℕ} (s : List ℕ) {s′ : List ℕ} {i : ℕ} → length s₀ ≡ stateLength → q < numbers → n ≤ 8 → i < n
-    → getD ts i 0 * 16 + getD us i 0 < 4294967296 → s′ ≡ putWord s (pairsIn q + i) (getD ts i 0 * 16 + getD us i 0) → Putting q n ts us s₀ s i
-    → Putting q n ts us s₀ s′ (i + 1)
-putting-more {q} {n} {ts} {us} s {s′} {i} whole number most h fits p f =
+pub packing-more : {n : ℕ} {ts us ps : List ℕ} {i : ℕ} → n ≤ 8 → i < n → Packing n ts us ps i → Packing n ts us (set ps i (getD ts i 0 * 16 + getD us i 0)) (i + 1)
+packing-more {n} {ts} {us} {ps} {i} most h f =
     let v : ℕ = getD ts i 0 * 16 + getD us i 0 in
-    let l = f .long in
-    let room : 4 * (pairsIn q + i) + 4 ≤ length s = omega arith in
     record {
       bound = omega arith;
-      long = ap length p ∙ put-length s (pairsIn q + i) v ∙ l;
-      keeps = keeps-one s (pairsIn q + i) v p room fits (omega arith) (omega arith) (f .keeps);
-      pairs =
-          below-more (λ (j : ℕ). getD (words s′) (pairsIn q + j) 0 ≡ getD ts j 0 * 16 + getD us j 0) i
-          (λ j g. elsewhere s (pairsIn q + i) v p room fits (pairsIn q + j) (λ e. omega arith) ∙ f .pairs j g)
-          (here s (pairsIn q + i) v p room fits);
+      wide = length-set ps i v ∙ f .wide;
+      done =
+          below-more (λ (j : ℕ). getD (set ps i v) j 0 ≡ getD ts j 0 * 16 + getD us j 0) i
+          (λ j g. getD-set-other ps i j v 0 (λ e. omega arith) ∙ f .done j g)
+          (getD-set-same ps i v 0 (omega (arith, f .wide)));
+      rest = λ j g. getD-set-other ps i j v 0 (λ e. omega arith) ∙ f .rest j (omega arith);
     }
+
+-- past the terms the pair is 0 and 0
+no-pair : (qs : List Pair) (i : ℕ) → length qs ≤ i → 0 ≡ termAt qs i * 16 + weightAt qs i
+unfolding termAt weightAt
+no-pair qs i h = ap (λ (p : Pair). p .term * 16 + p .amount) (sym (List·getD-eq-default qs (record { term = 0; amount = 0 }) {n = i} h))
+
+pub packed-all : {n : ℕ} {ts us ps : List ℕ} {i : ℕ} → n ≤ i → n ≤ length ts → n ≤ length us → Packing n ts us ps i → Packed (side-by-side n ts us) ps
+packed-all {n} {ts} {us} {ps} {i} h ht hu f j most = go (ltb j n) refl
+  where
+    long : length (side-by-side n ts us) ≡ n
+    long = length-side n ts us ht hu
+
+    go : (b : Bool) → ltb j n ≡ b → getD ps j 0 ≡ termAt (side-by-side n ts us) j * 16 + weightAt (side-by-side n ts us) j
+    go true e =
+        let l = ltb-true j n e in
+        let at = side-at n ts us j (omega (arith, long)) in
+        f .done j (omega (arith, f .bound)) ∙ rw (at .1, at .2) refl
+    go false e = let l = ltb-false j n e in f .rest j (omega (arith, f .bound)) ∙ no-pair (side-by-side n ts us) j (omega (arith, long))
 
 -- the length of the list and the number of terms were written before
 module _ (s₀ s₁ : List ℕ) {s₂ : List ℕ} (q k n : ℕ) (whole : length s₀ ≡ stateLength) (number : q < numbers) (fk : k < 4294967296) (most : n ≤ 8)
     (p : s₁ ≡ putWord s₀ (recordAt q) k) (r : s₂ ≡ putWord s₁ (sizeIn q) n) where
-  long₁ : length s₁ ≡ length s₀
-  long₁ = ap length p ∙ put-length s₀ (recordAt q) k
-
-  pub long₂ : length s₂ ≡ length s₀
-  long₂ = ap length r ∙ put-length s₁ (sizeIn q) n ∙ long₁
-
-  pub putting-all : {ts us s : List ℕ} {i : ℕ} → n ≤ i → n ≤ length ts → n ≤ length us → Putting q n ts us s₂ s i
-      → PutQuery q (record { k = k; terms = side-by-side n ts us }) (words s₀) (words s)
-  putting-all {ts} {us} h ht hu f =
-      let l = long₁ in
+  pub query-put : (ts us : List ℕ) {ps w : List ℕ} → n ≤ length ts → n ≤ length us → Packed (side-by-side n ts us) ps → Stored (pairsIn q) 8 ps (words s₂) w
+      → PutQuery q (record { k = k; terms = side-by-side n ts us }) (words s₀) w
+  query-put ts us {ps} {w} ht hu packed stored =
+      let l : length s₁ ≡ length s₀ = ap length p ∙ put-length s₀ (recordAt q) k in
       let room : 4 * recordAt q + 4 ≤ length s₀ = omega arith in
       let room₁ : 4 * sizeIn q + 4 ≤ length s₁ = omega arith in
       let fn : n < 4294967296 = omega arith in
@@ -84,16 +94,14 @@ module _ (s₀ s₁ : List ℕ) {s₂ : List ℕ} (q k n : ℕ) (whole : length 
             keeps-trans
             (keeps-one s₁ (sizeIn q) n r room₁ fn (omega arith) (omega arith)
             (keeps-one s₀ (recordAt q) k p room fk (omega arith) (omega arith) (keeps-refl (recordAt q) (listedIn q) (words s₀))))
-            (keeps-wider (omega arith) (omega arith) (f .keeps));
+            (keeps-wider (omega arith) (omega arith) (stored .keeps));
         says = record {
           k =
-              f .keeps .below (recordAt q) (omega arith)
+              stored .keeps .below (recordAt q) (omega arith)
               ∙ elsewhere s₁ (sizeIn q) n r room₁ fn (recordAt q) (λ e. omega arith)
               ∙ here s₀ (recordAt q) k p room fk;
-          size = f .keeps .below (sizeIn q) (omega arith) ∙ here s₁ (sizeIn q) n r room₁ fn ∙ sym (length-side n ts us ht hu);
-          pairs = λ j m.
-              let e = side-at n ts us j m in
-              f .pairs j (omega (arith, e .0)) ∙ rw (e .1, e .2) refl;
+          size = stored .keeps .below (sizeIn q) (omega arith) ∙ here s₁ (sizeIn q) n r room₁ fn ∙ sym (length-side n ts us ht hu);
+          pairs = λ i h. sym (part-at w (pairsIn q) i h) ∙ ap (λ (x : List ℕ). getD x i 0) (stored .reads) ∙ packed i h;
         };
       }
 

@@ -38,12 +38,12 @@ use Rattle.candidates.specs.Match.{exceedsCells, scored}
 use Rattle.candidates.specs.Flags.{flagOf, inRing}
 use Rattle.candidates.specs.Post.{termsOf, lineIn, grows, RankedBy, Sifted, Flagging}
 use Rattle.candidates.proofs.FlagLaws.{zero-at}
-use Rattle.candidates.proofs.MatchLaws.{in-ring, rising-ring, ranking-stored}
+use Rattle.candidates.proofs.MatchLaws.{slot-in, in-ring, rising-ring, ranking-stored}
 use Rattle.query.specs.Record.{thresholds, flags, candidates, keptOf, Says, Holds}
 use Rattle.query.specs.Post.{InRange, Is, sumOf, Lifted, secure, StoredKept, Over, Ready}
 use Rattle.query.proofs.ChosenLaws.{messages-select, over-rising, chosen, serials-of}
 use Rattle.query.proofs.LiftLaws.{secure-zero, secure-safe}
-use Rattle.query.proofs.RecordLaws.{says-same}
+use Rattle.query.proofs.RecordLaws.{cells-same, says-same}
 use Rattle.query.proofs.KeptLaws.{over-kept, thresholds-stored, threshold-stored, flags-stored, list-stored}
 
 -- ---- lower thresholds
@@ -207,14 +207,14 @@ module _ {w : List ℕ} {q o n : ℕ} {fs : List ℕ} {r : Query} {hs hs′ : Li
           (λ a. omega arith)
           (cut (r .n) hs i)
 
-  flagged : (j : ℕ) → j < slots
+  flagged : (j : ℕ)
       → flagOf (flags w′ q) j ≡ (inRing o n j && exceedsCells (query .terms) (thresholds w′ q (length (query .terms))) (slot w′ j .cells))
-  flagged j h =
+  flagged j =
       ap (λ (xs : List ℕ). flagOf xs j) (flags-stored kept)
-      ∙ sifted .right (rising-ring w o n ho (over-rising (ready .over))) (ready .is .rising) j h
+      ∙ sifted .right (rising-ring w o n ho (over-rising (ready .over))) (ready .is .rising) j
       ∙ ap (λ (qs : List Pair). inRing o n j && flagOf fs j && exceedsCells qs (take (r .n) hs′) (slot w j .cells)) (ready .is .terms)
-      ∙ and-drop (inRing o n j) (flagOf fs j) (exceedsCells (query .terms) (take (r .n) hs′) (slot w j .cells)) (taken j h)
-      ∙ rw (first-ones, slot-kept (kept .keeps) j (inl (omega arith)))
+      ∙ and-drop (inRing o n j) (flagOf fs j) (exceedsCells (query .terms) (take (r .n) hs′) (slot w j .cells)) (λ i. taken j (slot-in o n j i) i)
+      ∙ rw first-ones (cells-same w w′ (query .terms) (take (r .n) hs′) o n j (λ i. let h = slot-in o n j i in slot-kept (kept .keeps) j (inl (omega arith))))
 
   above : candidates w′ q o n ≡ serials (Threshold.candidates (query .terms) (thresholds w′ q (length (query .terms))) ms)
   unfolding candidates
@@ -222,7 +222,7 @@ module _ {w : List ℕ} {q o n : ℕ} {fs : List ℕ} {r : Query} {hs hs′ : Li
       serials-of w′ (select (flagOf (flags w′ q)) (ring o n)) (Threshold.candidates (query .terms) (thresholds w′ q (length (query .terms))) ms)
       (chosen w′ o n ms over′ (query .terms) (thresholds w′ q (length (query .terms))) (flagOf (flags w′ q))
       (λ j m. let i = in-ring o n j ho m in
-      flagged j (i .0) ∙ ap (λ (b : Bool). b && exceedsCells (query .terms) (thresholds w′ q (length (query .terms))) (slot w′ j .cells)) (i .1)))
+      flagged j ∙ ap (λ (b : Bool). b && exceedsCells (query .terms) (thresholds w′ q (length (query .terms))) (slot w′ j .cells)) (i .1)))
 
   settled : Settled query ms (keptOf w′ q o n (length (query .terms)))
   settled = record {
@@ -236,7 +236,7 @@ module _ {w : List ℕ} {q o n : ℕ} {fs : List ℕ} {r : Query} {hs hs′ : Li
 
   pub finished : Holds w′ q o n ms query
   finished = record {
-    says = says-same (kept .keeps) (inl (omega arith)) (ready .terms) (ready .says);
+    says = says-same (kept .keeps) (inl (omega arith)) (ready .says);
     settled = settled;
     flagged = flagged;
     no-threshold = λ i h k. threshold-stored kept i k ∙ settled-by .unused i (omega (arith, ready .is .n));
@@ -336,6 +336,6 @@ module _ {w : List ℕ} {q o n : ℕ} {fs : List ℕ} {r : Query} {l : Ranked} (
 
       exact : (j : ℕ) → j < slots → inRing o n j ≡ true → flagOf fs j ≡ exceedsCells (query .terms) (take (r .n) (replicate 8 0)) (slot w j .cells)
       exact j h i =
-          flagging .right (rising-ring w o n ho (over-rising over)) (is .rising) j h
+          flagging .right (rising-ring w o n ho (over-rising over)) (is .rising) j
           ∙ ap (λ (b : Bool). b && exceedsCells (termsOf r) (take (r .n) (replicate 8 0)) (slot w j .cells)) i
           ∙ ap (λ (qs : List Pair). exceedsCells qs (take (r .n) (replicate 8 0)) (slot w j .cells)) (is .terms)

@@ -1,12 +1,12 @@
 -- A list that stands: it is full, and no message that goes or comes scores as much as its last. Assumes nothing.
-use Prim.Native.Nat.{ℕ, zero, suc, _+_, _-_, _%_, _≤_, _<_}
+use Prim.Native.Nat.{ℕ, zero, suc, _+_, _%_, _≤_, _<_}
 use native.Mathlib.Omega.{arith}
 use mathlib.Core.Path.{_≡_, refl, sym, ap, ap₂, _∙_, subst}
 use mathlib.Core.Bool.{Bool, true, false, cond, _&&_, false≢true, true≢false}
 use mathlib.Core.Logic.{inl, ⊎-elim}
 use mathlib.Core.List.{List, [], _∷_, _++_, map}
 use lib.ListN.{length, getD, length-map}
-use lib.Dec.{eqb}
+use lib.Dec.{eqb, ltb}
 use borrow.Author.Tests.{eqb-true, eq-eqb, ne-eqb, ltb-true, lt-ltb, le-ltb}
 use Rattle.paper.specs.Frame.{Pair}
 use Rattle.paper.specs.Impact.{score}
@@ -33,7 +33,7 @@ use Rattle.candidates.specs.declared.Query.{Query}
 use Rattle.candidates.specs.Flags.{flagOf, inRing}
 use Rattle.candidates.specs.Match.{exceedsCells, lowSlots, AllRising}
 use Rattle.candidates.specs.Post.{termsOf, Rising, Low}
-use Rattle.candidates.proofs.MatchLaws.{in-ring, ring-in, score-stored}
+use Rattle.candidates.proofs.MatchLaws.{in-ring, ring-in, score-stored, slot-in, near}
 use Rattle.query.specs.Record.{thresholds, flags, list, candidates, keptOf, Holds}
 use Rattle.query.specs.Post.{Is, LoadedQuery, LoadedThresholds, LoadedList, arriving, Arriving, Reached, Arrived, NewestLow, Stands, KeptList, Change, Updated}
 use Rattle.query.proofs.ChosenLaws.{slots-rise, chosen, serials-of}
@@ -92,7 +92,7 @@ ring-apart : (o n : ℕ) → o < slots → n < slots → Ordered (λ i j. i ≡ 
 unfolding ring inRing
 ring-apart o zero h k = tt
 ring-apart o (suc n) h k = (
-  λ j m e. let a = ltb-true ((j + slots - next o) % slots) n (in-ring (next o) n j (omega arith) m .1) in omega arith,
+  λ j m e. let a = near (next o) n j (in-ring (next o) n j (omega arith) m .1) in omega arith,
   ring-apart (next o) n (omega arith) (omega arith),
 )
 
@@ -161,16 +161,16 @@ module _ {w : List ℕ} {q o d o′ newest : ℕ} {r : Query} {hs : List ℕ} {a
           keeps-part (kept .keeps) (scoresIn q) 16 (inl (omega arith)),
         )
 
-    flagged : (j : ℕ) → j < slots → flagOf (flags w′ q) j ≡ (inRing o′ n j && exceedsCells (query .terms) (thresholds w′ q m) (slot w′ j .cells))
-    flagged j h = rw (same-thresholds, slot-kept (kept .keeps) j (inl (omega arith))) (go (inRing o′ n j) refl)
+    flagged : (j : ℕ) → flagOf (flags w′ q) j ≡ (inRing o′ n j && exceedsCells (query .terms) (thresholds w′ q m) (slot w′ j .cells))
+    flagged j = rw same-thresholds (go (inRing o′ n j) refl)
       where
         exceeding : Bool
         exceeding = exceedsCells (query .terms) (thresholds w q m) (slot w j .cells)
 
         -- the newest is in the window
-        inside : inRing o′ n j ≡ false → j ≡ newest → ⊥
-        inside out e =
-            let here : In j (arriving newest) = subst (λ (b : Bool). In j (cond b (newest ∷ []) [])) (sym (lt-ltb newest slots (omega arith))) (inl e) in
+        inside : inRing o′ n j ≡ false → newest < slots → j ≡ newest → ⊥
+        inside out h e =
+            let here : In j (arriving newest) = subst (λ (b : Bool). In j (cond b (newest ∷ []) [])) (sym (lt-ltb newest slots h)) (inl e) in
             false≢true (sym out ∙ in-ring o′ n j (change .then-below) (subst (In j) (sym (change .after)) (in-right j (ring o′ s) (arriving newest) here)) .1)
 
         -- whoever was in the window and isn't departed
@@ -180,24 +180,28 @@ module _ {w : List ℕ} {q o d o′ newest : ℕ} {r : Query} {hs : List ℕ} {a
             ⊎-elim
             (λ k. absurd (false≢true (sym gone ∙ in-ring o d j (change .first-below) k .1)))
             (λ k. absurd (false≢true (sym out ∙ in-ring o′ n j (change .then-below) (subst (In j) (sym (change .after)) (in-left j (ring o′ s) (arriving newest) k)) .1)))
-            (in-split j (change .before) (ring-in o (d + s) j (change .first-below) h e))
+            (in-split j (change .before) (ring-in o (d + s) j (change .first-below) (slot-in o (d + s) j e) e))
 
-        old : inRing o′ n j ≡ false → inRing o d j ≡ false → (b : Bool) → eqb j newest ≡ b → cond b above (flagOf (flags w q) j) ≡ false
-        old out gone true e = absurd (inside out (eqb-true j newest e))
-        old out gone false e = holds .flagged j h ∙ ap (λ (b : Bool). b && exceeding) (before out gone (inRing o (d + s) j) refl)
+        old : inRing o′ n j ≡ false → inRing o d j ≡ false → (a b : Bool) → ltb newest slots ≡ a → eqb j newest ≡ b
+            → cond (a && b) above (flagOf (flags w q) j) ≡ false
+        old out gone true true l e = absurd (inside out (ltb-true newest slots l) (eqb-true j newest e))
+        old out gone true false l e = holds .flagged j ∙ ap (λ (b : Bool). b && exceeding) (before out gone (inRing o (d + s) j) refl)
+        old out gone false b l e = holds .flagged j ∙ ap (λ (b : Bool). b && exceeding) (before out gone (inRing o (d + s) j) refl)
 
         away : inRing o′ n j ≡ false → (b : Bool) → inRing o d j ≡ b → flagOf (flags w′ q) j ≡ false
-        away out true e = kept .flags-are .gone j h (ring-in o d j (change .first-below) h e)
+        away out true e = kept .flags-are .gone j (ring-in o d j (change .first-below) (slot-in o d j e) e)
         away out false e =
-            kept .flags-are .others j h (λ k. false≢true (sym e ∙ in-ring o d j (change .first-below) k .1))
-            ∙ arrived .is j h
-            ∙ old out e (eqb j newest) refl
+            kept .flags-are .others j (λ k. false≢true (sym e ∙ in-ring o d j (change .first-below) k .1))
+            ∙ arrived .is j
+            ∙ old out e (ltb newest slots) (eqb j newest) refl refl
 
-        go : (b : Bool) → inRing o′ n j ≡ b → flagOf (flags w′ q) j ≡ (b && exceeding)
+        go : (b : Bool) → inRing o′ n j ≡ b → flagOf (flags w′ q) j ≡ (b && exceedsCells (query .terms) (thresholds w q m) (slot w′ j .cells))
         go true i =
-            kept .flags-are .others j h (λ k. gone-apart change j k i)
+            let h = slot-in o′ n j i in
+            kept .flags-are .others j (λ k. gone-apart change j k i)
             ∙ exact-after query-is thresholds-are arrives reaching change terms holds arrived refl j h i
             ∙ ap (λ (xs : List ℕ). exceedsCells (query .terms) xs (slot w j .cells)) (the-thresholds query-is thresholds-are arrives reaching change terms holds)
+            ∙ ap (λ (x : Slot). exceedsCells (query .terms) (thresholds w q m) (x .cells)) (sym (slot-kept (kept .keeps) j (inl (omega arith))))
         go false i = away i (inRing o d j) refl
 
     above-are : candidates w′ q o′ n ≡ serials (Threshold.candidates (query .terms) (thresholds w q m) (sa ++ ca))
@@ -206,7 +210,7 @@ module _ {w : List ℕ} {q o d o′ newest : ℕ} {r : Query} {hs : List ℕ} {a
         serials-of w′ (select (flagOf (flags w′ q)) (ring o′ n)) (Threshold.candidates (query .terms) (thresholds w q m) (sa ++ ca))
         (chosen w′ o′ n (sa ++ ca) (over-kept (kept .keeps) (omega arith) o′ n (change .then-below) (over-after change)) (query .terms) (thresholds w q m) (flagOf (flags w′ q))
         (λ j k. let i = in-ring o′ n j (change .then-below) k in
-        flagged j (i .0)
+        flagged j
         ∙ ap₂ (λ (b : Bool) (xs : List ℕ). b && exceedsCells (query .terms) xs (slot w′ j .cells)) (i .1) same-thresholds))
 
     -- THE LAW: the ranking stands
@@ -222,7 +226,7 @@ module _ {w : List ℕ} {q o d o′ newest : ℕ} {r : Query} {hs : List ℕ} {a
 
     pub still-holds : Holds w′ q o′ n (sa ++ ca) query
     still-holds = record {
-      says = says-same (kept .keeps) (inl (omega arith)) terms (holds .says);
+      says = says-same (kept .keeps) (inl (omega arith)) (holds .says);
       settled =
           rw (same-thresholds, same-list)
           (settled-again query aa (sa ++ ca) (keptOf w q o (d + s) m) (candidates w′ q o′ n) (holds .settled) same-ranking above-are);

@@ -28,7 +28,7 @@ use Rattle.candidates.specs.declared.Query.{Query}
 use Rattle.candidates.specs.Match.{exceedsCells, reachedSlots, AllRising}
 use Rattle.candidates.specs.Flags.{flagOf, inRing}
 use Rattle.candidates.specs.Post.{termsOf, Rising, exceedsIn, Exceeding, Reaching}
-use Rattle.candidates.proofs.MatchLaws.{in-ring, ring-in}
+use Rattle.candidates.proofs.MatchLaws.{slot-in, in-ring, ring-in}
 use Rattle.candidates.proofs.TermLaws.{exceeds-missing}
 use Rattle.query.specs.Record.{thresholds, flags, list, candidates, keptOf, Holds}
 use Rattle.query.specs.Post.{Is, LoadedQuery, LoadedThresholds, Over, arriving, Arriving, Reached, Arrived, Change, reaches, SettledFrom, HasTerms, Covers, Shares, Updated}
@@ -132,19 +132,20 @@ module _ {w : List ℕ} {o d o′ s newest : ℕ} {aa ga sa ca : List Message} (
     exact : {above : Bool} {fs : List ℕ} → Arrived w q newest above fs → above ≡ reachedSlots (query .terms) hs (map (slot w) (arriving newest))
         → (j : ℕ) → j < slots → inRing o′ (s + length ca) j ≡ true → flagOf fs j ≡ exceeding j
     unfolding reachedSlots
-    exact {above} arrived e j h i = arrived .is j h ∙ go (eqb j newest) refl
+    exact {above} arrived e j h i = arrived .is j ∙ go (eqb j newest) refl
       where
-        go : (b : Bool) → eqb j newest ≡ b → cond b above (flag j) ≡ exceeding j
+        go : (b : Bool) → eqb j newest ≡ b → cond (ltb newest slots && b) above (flag j) ≡ exceeding j
         go true p =
             let n = eqb-true j newest p in
             let l : ltb newest slots ≡ true = lt-ltb newest slots (omega arith) in
-            rw n
+            rw (l, n)
             (e
             ∙ ap (λ (t : Bool). reachedSlots (query .terms) hs (map (slot w) (cond t (newest ∷ []) []))) l
             ∙ or-false (exceedsCells (query .terms) hs (slot w newest .cells)))
         go false p =
-            ⊎-elim
-            (λ m. holds .flagged j h
+            ap (λ (t : Bool). cond t above (flag j)) (and-false (ltb newest slots))
+            ∙ ⊎-elim
+            (λ m. holds .flagged j
             ∙ ap (λ (t : Bool). t && exceeding j) (in-ring o (d + s) j (change .first-below) (in-stay j (change .before) m) .1))
             (λ m. absurd (eqb-false j newest p (in-arriving j newest m .0)))
             (in-append j (ring o′ s) (arriving newest) (subst (In j) (change .after) (ring-in o′ (s + length ca) j (change .then-below) h i)))
@@ -161,14 +162,14 @@ module _ {w : List ℕ} {o d o′ s newest : ℕ} {aa ga sa ca : List Message} (
 
       gone-plain : (j : ℕ) → In j (ring o d) → flag j ≡ false
       gone-plain j m =
-          holds .flagged j (in-ring o d j (change .first-below) m .0)
+          holds .flagged j
           ∙ ap (λ (t : Bool). inRing o (d + s) j && t) (gone-below j m)
           ∙ and-false (inRing o (d + s) j)
 
       come-plain : (j : ℕ) → In j (arriving newest) → flag j ≡ false
       come-plain j m =
           let p = in-arriving j newest m in
-          holds .flagged j (omega (arith, p .0, p .1))
+          holds .flagged j
           ∙ ap (λ (i : ℕ). inRing o (d + s) i && exceeding j) (p .0)
           ∙ ap (λ (t : Bool). t && exceeding j) (change .apart (p .1))
 
@@ -179,22 +180,22 @@ module _ {w : List ℕ} {o d o′ s newest : ℕ} {aa ga sa ca : List Message} (
           (select-change flag (arriving newest) (change .before) gone-plain come-plain ∙ ap (select flag) (sym (change .after)))
 
       -- whoever exceeds a threshold stays
-      same-ring : (j : ℕ) → j < slots → exceeding j ≡ true → inRing o (d + s) j ≡ inRing o′ (s + length ca) j
-      same-ring j h x = both-or-neither (inRing o (d + s) j) (inRing o′ (s + length ca) j) forth back
+      same-ring : (j : ℕ) → exceeding j ≡ true → inRing o (d + s) j ≡ inRing o′ (s + length ca) j
+      same-ring j x = both-or-neither (inRing o (d + s) j) (inRing o′ (s + length ca) j) forth back
         where
           forth : inRing o (d + s) j ≡ true → inRing o′ (s + length ca) j ≡ true
           forth i =
               ⊎-elim
               (λ m. absurd (false≢true (sym (gone-below j m) ∙ x)))
               (λ m. in-ring o′ (s + length ca) j (change .then-below) (subst (In j) (sym (change .after)) (in-left j (ring o′ s) (arriving newest) m)) .1)
-              (in-split j (change .before) (ring-in o (d + s) j (change .first-below) h i))
+              (in-split j (change .before) (ring-in o (d + s) j (change .first-below) (slot-in o (d + s) j i) i))
 
           back : inRing o′ (s + length ca) j ≡ true → inRing o (d + s) j ≡ true
           back i =
               ⊎-elim
               (λ m. in-ring o (d + s) j (change .first-below) (in-stay j (change .before) m) .1)
               (λ m. absurd (false≢true (sym (come-below j m) ∙ x)))
-              (in-append j (ring o′ s) (arriving newest) (subst (In j) (change .after) (ring-in o′ (s + length ca) j (change .then-below) h i)))
+              (in-append j (ring o′ s) (arriving newest) (subst (In j) (change .after) (ring-in o′ (s + length ca) j (change .then-below) (slot-in o′ (s + length ca) j i) i)))
 
       -- THE LAW: a record that a change of the window doesn't reach is right after it
       stays-right : Holds w q o′ (s + length ca) (sa ++ ca) query
@@ -203,7 +204,7 @@ module _ {w : List ℕ} {o d o′ s newest : ℕ} {aa ga sa ca : List Message} (
         settled =
             subst (λ (cs : List ℕ). Settled query (sa ++ ca) (record { thresholds = hs; candidates = cs; list = list w q })) same-candidates
             (skip query ca (keptOf w q o (d + s) (length (query .terms))) (change .split) (holds .settled) unreached);
-        flagged = λ j h. holds .flagged j h ∙ and-same (inRing o (d + s) j) (inRing o′ (s + length ca) j) (exceeding j) (same-ring j h);
+        flagged = λ j. holds .flagged j ∙ and-same (inRing o (d + s) j) (inRing o′ (s + length ca) j) (exceeding j) (same-ring j);
         no-threshold = holds .no-threshold;
         listed-most = holds .listed-most;
         no-serial = holds .no-serial;

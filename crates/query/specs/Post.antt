@@ -1,17 +1,17 @@
 -- What each function over a record ensures. Assumes nothing.
-use Prim.Native.Nat.{ℕ, _+_, _≤_, _<_}
+use Prim.Native.Nat.{ℕ, _+_, _*_, _≤_, _<_}
 use mathlib.Core.Path.{_≡_}
 use mathlib.Core.Bool.{Bool, true, false, cond, _&&_, _||_}
 use mathlib.Core.List.{List, [], _∷_, _++_, map}
 use lib.ListN.{length, getD, take, drop}
 use lib.Dec.{eqb, leb, ltb}
-use Rattle.paper.specs.Frame.{mostTerms, mostListed}
+use Rattle.paper.specs.Frame.{mostTerms, mostListed, Pair}
 use Rattle.paper.specs.Impact.{top}
 use Rattle.paper.specs.Rank.{lines, ranking}
 use Rattle.paper.specs.Rank as Rank
 use Rattle.paper.specs.Window.{Message}
 use Rattle.paper.specs.Order.{In, Split}
-use Rattle.paper.specs.Threshold.{thresholdSum, lastScore, reached, termAt}
+use Rattle.paper.specs.Threshold.{thresholdSum, lastScore, reached, termAt, weightAt}
 use Rattle.paper.specs.Layout.{slots, recordAt, recordWords, thresholdsIn, serialsIn, scoresIn, flagsIn, listedIn, flagWords}
 use Rattle.paper.specs.Sound.{Messages, Terms}
 use Rattle.memory.specs.Keeps.{Keeps}
@@ -143,9 +143,9 @@ pub record Arriving (w : List ℕ) (newest : ℕ) (r : Query) (hs : List ℕ) (b
 pub record Reached (w : List ℕ) (o d : ℕ) (above : Bool) (r : Query) (hs : List ℕ) (b : Bool) : Type 0 where
   pub right : AllRising (window w o d) → Rising r → b ≡ (above || reachedSlots (termsOf r) (take (r .n) hs) (window w o d))
 
--- the flags, with that of the arriving message
+-- the flags, with that of the arriving message where there is one
 pub record Arrived (w : List ℕ) (q newest : ℕ) (above : Bool) (r : List ℕ) : Type 0 where
-  pub is : (j : ℕ) → j < slots → flagOf r j ≡ cond (eqb j newest) above (flagOf (flags w q) j)
+  pub is : (j : ℕ) → flagOf r j ≡ cond (ltb newest slots && eqb j newest) above (flagOf (flags w q) j)
 
 -- whether an arriving message scores below a bound
 pub record NewestLow (w : List ℕ) (newest : ℕ) (r : Query) (bound : ℕ) (b : Bool) : Type 0 where
@@ -202,6 +202,10 @@ pub record Updated (w : List ℕ) (q o d o′ count newest : ℕ) (set : List Bo
   pub right : (s : ℕ) (aa ga sa ca : List Message) (query : Rank.Query) → Covers w o d newest set → Change w o d o′ s newest aa ga sa ca → count ≡ s + length ca
       → Terms query → Holds w q o (d + s) aa query
       → (r ≡ reaches w q ga ca query) × Holds w′ q o′ count (sa ++ ca) query
+
+-- the words of some pairs, 0 past them
+abbrev pub Packed : List Pair → List ℕ → Type 0
+Packed qs r = (i : ℕ) → i < mostTerms → getD r i 0 ≡ termAt qs i * 16 + weightAt qs i
 
 -- a query is written, with nothing kept of it yet
 pub record PutQuery (q : ℕ) (query : Rank.Query) (w w′ : List ℕ) : Type 0 where

@@ -39,17 +39,17 @@ keptOf w q o n m = record { thresholds = thresholds w q m; candidates = candidat
 
 -- ---- when it holds what it should
 
--- the record says this query
+-- the record says this query: all eight words of pairs, those past its terms 0
 pub record Says (w : List ℕ) (q : ℕ) (query : Query) : Type 0 where
   pub k : getD w (recordAt q) 0 ≡ query .k
   pub size : getD w (sizeIn q) 0 ≡ length (query .terms)
-  pub pairs : (i : ℕ) → i < length (query .terms) → getD w (pairsIn q + i) 0 ≡ termAt (query .terms) i * weightLimit + weightAt (query .terms) i
+  pub pairs : (i : ℕ) → i < mostTerms → getD w (pairsIn q + i) 0 ≡ termAt (query .terms) i * weightLimit + weightAt (query .terms) i
 
 -- it says this query, and what is kept is right for the messages in the window; the places it doesn't use are 0
 pub record Holds (w : List ℕ) (q o n : ℕ) (ms : List Message) (query : Query) : Type 0 where
   pub says : Says w q query
   pub settled : Settled query ms (keptOf w q o n (length (query .terms)))
-  pub flagged : (j : ℕ) → j < slots
+  pub flagged : (j : ℕ)
       → flagOf (flags w q) j ≡ (inRing o n j && exceedsCells (query .terms) (thresholds w q (length (query .terms))) (slot w j .cells))
   pub no-threshold : (i : ℕ) → length (query .terms) ≤ i → i < mostTerms → getD w (thresholdsIn q + i) 0 ≡ 0
   pub listed-most : getD w (listedIn q) 0 ≤ mostListed

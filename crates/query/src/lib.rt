@@ -13,7 +13,7 @@ ghost use Rattle.window.specs.Terms.{termLimit};
 ghost use Rattle.rank.specs.Listing.{linesOf};
 ghost use Rattle.rank.specs.Weights.{weightLimit};
 ghost use Rattle.query.specs.Record.{Says};
-ghost use Rattle.query.specs.Post.{Clamped, InRange, LoadedQuery, LoadedThresholds, LoadedList, Lifted, secure, StoredKept, Finished, Refilled, SettledFrom, Arriving, Reached, Arrived, NewestLow, Stands, KeptList, Covers, Shares, Updated, PutQuery, Registered, Cleared};
+ghost use Rattle.query.specs.Post.{Clamped, InRange, LoadedQuery, LoadedThresholds, LoadedList, Lifted, secure, StoredKept, Finished, Refilled, SettledFrom, Arriving, Reached, Arrived, NewestLow, Stands, KeptList, Covers, Shares, Updated, Packed, PutQuery, Registered, Cleared};
 use candidates::Query;
 use paper::layout;
 use rank::Ranked;
@@ -383,8 +383,23 @@ pub fn clear(state: &mut [u8], q: usize)
     }
 }
 
+// The words of a query's pairs, each a term with its weight; 0 past its n terms.
+fn packed(n: usize, terms: [u32; 8], weights: [u32; 8]) -> [u32; 8]
+    requires { ⌜ n ≤ mostTerms ⌝ }
+    requires { ⌜ ((i : ℕ) → i < n → (getD terms i 0 < termLimit) × (getD weights i 0 < weightLimit)) ⌝ }
+    ensures { λ r. ⌜ Packed (side-by-side n terms weights) r ⌝ }
+{
+    let mut pairs = [0u32; 8];
+    let mut i: usize = 0;
+    while i < n {
+        pairs[i] = terms[i] * WEIGHT_LIMIT + weights[i];
+        i += 1;
+    }
+    pairs
+}
+
 // A query is written: the length of its list, how many terms it has, and each with its weight.
-fn put_query(state: &mut [u8], q: usize, k: u32, n: usize, terms: [u32; 16], weights: [u32; 16])
+fn put_query(state: &mut [u8], q: usize, k: u32, n: usize, terms: [u32; 8], weights: [u32; 8])
     requires { ⌜ (length (now state) ≡ stateLength) × (q < numbers) × (n ≤ mostTerms) ⌝ }
     requires { ⌜ ((i : ℕ) → i < n → (getD terms i 0 < termLimit) × (getD weights i 0 < weightLimit)) ⌝ }
     ensures { λ _. ⌜ PutQuery q (record { k = k; terms = side-by-side n terms weights }) (words (now (state .entry))) (words (now (state .exit))) ⌝ }
@@ -392,12 +407,8 @@ fn put_query(state: &mut [u8], q: usize, k: u32, n: usize, terms: [u32; 16], wei
     let at = layout::RECORDS + layout::RECORD * q;
     memory::put(state, at, k);
     memory::put(state, at + layout::SIZE, n as u32);
-    let mut i: usize = 0;
-    while i < n {
-        let pair = terms[i] * WEIGHT_LIMIT + weights[i];
-        memory::put(state, at + layout::PAIRS + i, pair);
-        i += 1;
-    }
+    let pairs = packed(n, terms, weights);
+    memory::store8(state, at + layout::PAIRS, pairs);
 }
 
 // A query is registered over the window.
@@ -406,8 +417,8 @@ pub fn register(
     q: usize,
     k: u32,
     n: usize,
-    terms: [u32; 16],
-    weights: [u32; 16],
+    terms: [u32; 8],
+    weights: [u32; 8],
     first: usize,
     count: usize,
 )

@@ -81,15 +81,15 @@ module _ (m : ℕ) (ts fs : List ℕ) (ht : m ≤ length ts) (hf : m ≤ length 
   cell-at i h = cells-in (squares (side-by-side m ts fs)) m ts fs ht hf .1 i h ∙ ap (λ (n : ℕ). packed (getD ts i 0) (getD fs i 0) (impact (getD fs i 0) n)) (squares-side m ts fs ht)
 
 -- in words: time, serial and number of cells, then the cells
-slot-written : (j : ℕ) (x : Message) (m : ℕ) (w w′ : List ℕ) → slotAt j + slotWords ≤ length w → m ≤ mostPairs
+slot-written : (j : ℕ) (x : Message) (m : ℕ) (w w′ : List ℕ) → slotAt j + slotWords ≤ length w → m ≤ mostPairs → length (x .pairs) ≡ m
     → Stored (cellsAt j) m (cellsOf (x .pairs)) (set (set (set w (slotAt j) (x .time)) (slotAt j + serialOffset) (x .serial)) (slotAt j + cellCountOffset) m) w′ → Written j x w w′
 unfolding slot stored
-slot-written j x m w w′ long few cells = record {
+slot-written j x m w w′ long few all cells = record {
   keeps =
       keeps-trans (one w (slotAt j) (x .time) (omega arith) (omega arith))
       (keeps-trans (one w₁ (slotAt j + serialOffset) (x .serial) (omega arith) (omega arith))
       (keeps-trans (one w₂ (slotAt j + cellCountOffset) m (omega arith) (omega arith)) (keeps-wider (omega arith) (omega arith) (cells .keeps))));
-  holds = rw (time-is, serial-is, size-is, min-eq-left few, cells .reads);
+  holds = rw (time-is, serial-is, size-is, min-eq-left few, cells .reads, all);
 }
   where
     w₁ : List ℕ
@@ -127,13 +127,14 @@ slot-written j x m w w′ long few cells = record {
 
 -- as the words are put one after the other
 pub message-written : (j : ℕ) (x : Message) (m : ℕ) (s₀ s₁ s₂ s₃ : List ℕ) {w′ : List ℕ} → length s₀ ≡ stateLength → j < slots → m ≤ mostPairs
-    → x .time < 2 ^ 32 → x .serial < 2 ^ 32 → s₁ ≡ putWord s₀ (slotAt j) (x .time) → s₂ ≡ putWord s₁ (slotAt j + serialOffset) (x .serial)
-    → s₃ ≡ putWord s₂ (slotAt j + cellCountOffset) m → Stored (cellsAt j) m (cellsOf (x .pairs)) (words s₃) w′ → Written j x (words s₀) w′
-message-written j x m s₀ s₁ s₂ s₃ {w′} long low few ht hs e₁ e₂ e₃ cells =
+    → length (x .pairs) ≡ m → x .time < 2 ^ 32 → x .serial < 2 ^ 32 → s₁ ≡ putWord s₀ (slotAt j) (x .time)
+    → s₂ ≡ putWord s₁ (slotAt j + serialOffset) (x .serial) → s₃ ≡ putWord s₂ (slotAt j + cellCountOffset) m
+    → Stored (cellsAt j) m (cellsOf (x .pairs)) (words s₃) w′ → Written j x (words s₀) w′
+message-written j x m s₀ s₁ s₂ s₃ {w′} long low few all ht hs e₁ e₂ e₃ cells =
     let l₁ : length s₁ ≡ length s₀ = ap length e₁ ∙ put-length s₀ (slotAt j) (x .time) in
     let l₂ : length s₂ ≡ length s₁ = ap length e₂ ∙ put-length s₁ (slotAt j + serialOffset) (x .serial) in
     let l = words-length s₀ in
-    slot-written j x m (words s₀) w′ (omega arith) few
+    slot-written j x m (words s₀) w′ (omega arith) few all
     (rw (
       e₃,
       put-word s₂ (slotAt j + cellCountOffset) m (omega arith) (omega arith),

@@ -2,7 +2,7 @@
 use Prim.Native.Nat.{ℕ, zero, suc, _+_, _%_, min}
 use mathlib.Core.Bool.{Bool, false, cond, _||_}
 use mathlib.Core.List.{List, [], _∷_, map}
-use lib.ListN.{getD, take, drop}
+use lib.ListN.{length, getD, take, drop}
 use lib.Dec.{eqb}
 use Rattle.paper.specs.Frame.{mostPairs}
 use Rattle.paper.specs.Window.{Message, past}
@@ -12,6 +12,7 @@ use Rattle.impact.specs.Cell.{cellsOf}
 pub record Slot : Type 0 where
   pub time : ℕ
   pub serial : ℕ
+  pub size : ℕ
   pub cells : List ℕ
 
 -- how many cells a slot has, at most as many as it has room for whatever memory says
@@ -23,12 +24,13 @@ slot w j =
     record {
       time = getD w (slotAt j) 0;
       serial = getD w (slotAt j + serialOffset) 0;
+      size = getD w (slotAt j + cellCountOffset) 0;
       cells = take (sizeAt w j) (drop (cellsAt j) w);
     }
 
--- the slot that a message is stored in
+-- the slot that a message is stored in: the size word is its number of pairs
 unfoldable pub stored : Message → Slot
-stored m = record { time = m .time; serial = m .serial; cells = cellsOf (m .pairs) }
+stored m = record { time = m .time; serial = m .serial; size = length (m .pairs); cells = cellsOf (m .pairs) }
 
 abbrev pub next : ℕ → ℕ
 next j = (j + 1) % slots

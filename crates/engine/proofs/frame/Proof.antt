@@ -1,5 +1,5 @@
 -- `frame` meets its contract. Assumes nothing.
-use Rattle.engine.proofs.ReadLaws.{read-message, read-tick, read-register, read-unregister, read-refused}
+use Rattle.engine.proofs.ReadLaws.{read-message, read-tick, read-register, read-eight, read-unregister, read-refused}
 use Rattle.engine.proofs.PostLaws.{not-lent, misshapen, done}
 use borrow.Author.Needs.{needs}
 use Rattle.engine.proofs.frame.Statement.{statement}
@@ -16,9 +16,10 @@ message-requires c κs =
 
 register-requires : tie.Need-register-requires
 register-requires c κs =
-    let read = c .before .before .before .before .before .before .read in
-    let m = read-register (c .before .before .before .before .before .before .before .before .before .before .args .bytes .now) (read .result) (read .ensures) _ _ _ _ (c .before .before .what3 .given .1) in
-    (search needs, ((m .1, m .2, m .3, m .0 .least, m .4), m .0 .fit))
+    let read = c .before .before .before .before .before .before .before .before .read in
+    let m = read-register (c .before .before .before .before .before .before .before .before .before .before .before .before .args .bytes .now) (read .result) (read .ensures) _ _ _ _ (c .before .before .before .before .what3 .given .1) in
+    let few = read-eight (c .before .before .first-eight .ensures) (c .before .first-eight2 .ensures) (m .0) (m .4) in
+    (search needs, ((m .1, m .2, m .3, few .least, m .4), few .fit))
 
 unregister-requires : tie.Need-unregister-requires
 unregister-requires c κs =
@@ -39,9 +40,10 @@ returns-3 c =
 
 returns-4 : tie.Need-returns-4
 returns-4 c =
-    let read = c .before .before .before .before .before .before .before .before .before .read in
-    let m = read-register (c .before .before .before .before .before .before .before .before .before .before .before .before .before .args .bytes .now) (read .result) (read .ensures) _ _ _ _ (c .before .before .before .before .before .what3 .given .1) in
-    done _ _ _ _ _ (search needs) (search needs) (m .0 .is) (λ i. c .before .before .before .before .before .before .before .before .before .before .before .before .slice-known .given i .fits) (λ i. c .slice-known4 .given i .fits) (c .before .before .register .ensures)
+    let read = c .before .before .before .before .before .before .before .before .before .before .before .read in
+    let m = read-register (c .before .before .before .before .before .before .before .before .before .before .before .before .before .before .before .args .bytes .now) (read .result) (read .ensures) _ _ _ _ (c .before .before .before .before .before .before .before .what3 .given .1) in
+    let few = read-eight (c .before .before .before .before .before .first-eight .ensures) (c .before .before .before .before .first-eight2 .ensures) (m .0) (m .4) in
+    done _ _ _ _ _ (search needs) (search needs) (few .is) (λ i. c .before .before .before .before .before .before .before .before .before .before .before .before .before .before .slice-known .given i .fits) (λ i. c .slice-known4 .given i .fits) (c .before .before .register .ensures)
 
 returns-5 : tie.Need-returns-5
 returns-5 c =
@@ -66,6 +68,8 @@ frame-spec =
     (λ c. search needs)
     (λ c κs. search needs)
     (λ c. search needs)
+    (λ c κs. search needs)
+    (λ c κs. search needs)
     (λ c. search needs)
     register-requires
     (λ c. search needs)
