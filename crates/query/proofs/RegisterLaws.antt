@@ -15,6 +15,7 @@ use Rattle.memory.specs.Words.{words, putWord}
 use Rattle.memory.specs.Keeps.{Keeps}
 use Rattle.memory.proofs.WordLaws.{put-word, put-length, words-length}
 use Rattle.memory.proofs.KeepsLaws.{keeps-refl, keeps-trans, keeps-wider, keeps-more}
+use Rattle.rank.specs.Weights.{weightLimit}
 use Rattle.candidates.specs.declared.Query.{Query}
 use Rattle.candidates.proofs.TermLaws.{side-at}
 use Rattle.query.specs.Post.{LoadedQuery, Refilled, PutQuery, Registered}
@@ -41,16 +42,16 @@ pub record Putting (q n : ℕ) (ts us s₀ s : List ℕ) (i : ℕ) : Type 0 wher
   pub bound : i ≤ n
   pub long : length s ≡ length s₀
   pub keeps : Keeps (pairsIn q) (listedIn q) (words s₀) (words s)
-  pub pairs : (j : ℕ) → j < i → getD (words s) (pairsIn q + j) 0 ≡ getD ts j 0 * 16 + getD us j 0
+  pub pairs : (j : ℕ) → j < i → getD (words s) (pairsIn q + j) 0 ≡ getD ts j 0 * weightLimit + getD us j 0
 
 pub putting-none : (q n : ℕ) (ts us s : List ℕ) {i : ℕ} → i ≡ 0 → Putting q n ts us s s i
 putting-none q n ts us s z = record { bound = omega arith; long = refl; keeps = keeps-refl (pairsIn q) (listedIn q) (words s); pairs = λ j h. absurd (omega arith) }
 
 pub putting-more : {q n : ℕ} {ts us s₀ : List ℕ} (s : List ℕ) {s′ : List ℕ} {i : ℕ} → length s₀ ≡ stateLength → q < numbers → n ≤ 8 → i < n
-    → getD ts i 0 * 16 + getD us i 0 < 4294967296 → s′ ≡ putWord s (pairsIn q + i) (getD ts i 0 * 16 + getD us i 0) → Putting q n ts us s₀ s i
+    → getD ts i 0 * weightLimit + getD us i 0 < 4294967296 → s′ ≡ putWord s (pairsIn q + i) (getD ts i 0 * weightLimit + getD us i 0) → Putting q n ts us s₀ s i
     → Putting q n ts us s₀ s′ (i + 1)
 putting-more {q} {n} {ts} {us} s {s′} {i} whole number most h fits p f =
-    let v : ℕ = getD ts i 0 * 16 + getD us i 0 in
+    let v : ℕ = getD ts i 0 * weightLimit + getD us i 0 in
     let l = f .long in
     let room : 4 * (pairsIn q + i) + 4 ≤ length s = omega arith in
     record {
@@ -58,7 +59,7 @@ putting-more {q} {n} {ts} {us} s {s′} {i} whole number most h fits p f =
       long = ap length p ∙ put-length s (pairsIn q + i) v ∙ l;
       keeps = keeps-one s (pairsIn q + i) v p room fits (omega arith) (omega arith) (f .keeps);
       pairs =
-          below-more (λ (j : ℕ). getD (words s′) (pairsIn q + j) 0 ≡ getD ts j 0 * 16 + getD us j 0) i
+          below-more (λ (j : ℕ). getD (words s′) (pairsIn q + j) 0 ≡ getD ts j 0 * weightLimit + getD us j 0) i
           (λ j g. elsewhere s (pairsIn q + i) v p room fits (pairsIn q + j) (λ e. omega arith) ∙ f .pairs j g)
           (here s (pairsIn q + i) v p room fits);
     }
