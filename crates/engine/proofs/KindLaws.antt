@@ -158,7 +158,8 @@ known {s} {r} {t} {serial} {life} {clock} {o} {n} {clock₁} {o₁} {n₁} {b} p
 pub message-done : {s s′ : List ℕ} {r : Reply} {t serial life clock o n clock₁ o₁ n₁ capacity clock₂ o′ n′ : ℕ} {b : Bool} {ps : List Pair}
     → Loaded (words s) clock o n → life ≡ getD (words s) lifeAt 0 → Advanced (words s) life o n t clock₁ o₁ n₁ → clock ≤ t
     → b ≡ holdsSerial serial (window (words s) o₁ n₁) → b ≡ false
-    → (capacity ≤ mostMessages) × (getD (words s) capacityAt 0 ≤ mostMessages → capacity ≡ getD (words s) capacityAt 0) → Roomy capacity clock₁ o₁ n₁ clock₂ o′ n′
+    → (capacity ≤ mostMessages) × (getD (words s) capacityAt 0 ≤ mostMessages → capacity ≡ getD (words s) capacityAt 0)
+    → Roomy capacity clock₁ o₁ n₁ clock₂ o′ n′
     → Joined (record { time = t; serial = serial; pairs = ps }) o n o′ n′ (words s) r (words s′) → n′ < mostMessages → Did (message t serial ps) s r s′
 message-done {s} {s′} {r} {t} {serial} {life} {clock} {o} {n} {clock₁} {o₁} {n₁} {capacity} {clock₂} {o′} {n′} {b} {ps} loaded life-is adv h e y cap roomy j room = record {
   unchanged = λ z. absurd (z (j .number));

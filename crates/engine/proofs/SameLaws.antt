@@ -89,7 +89,9 @@ module _ (w w′ : List ℕ) (q : ℕ) (long : length w′ ≡ length w) (same :
 
   pub same-list : list w′ q ≡ list w q
   unfolding list
-  same-list = λ i. listed (same listedOffset (omega arith) i) (same-part serialsOffset mostListed (omega arith) i) (same-part scoresOffset mostListed (omega arith) i)
+  same-list = λ i.
+      listed (same listedOffset (omega arith) i) (same-part serialsOffset mostListed (omega arith) i)
+      (same-part scoresOffset mostListed (omega arith) i)
 
   word-same : (a i : ℕ) → a + i < recordWords → getD w′ (recordAt q + a + i) 0 ≡ getD w (recordAt q + a + i) 0
   word-same a i h =

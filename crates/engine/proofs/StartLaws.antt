@@ -81,7 +81,9 @@ module _ (N T : ℕ) (N-least : 1 ≤ N) (N-most : N ≤ mostMessages) (T-least 
       let l′ : length (set (zeros stateWords) capacityAt N) ≡ length (zeros stateWords) = length-set (zeros stateWords) capacityAt N in
       record {
         long = length-set (set (zeros stateWords) capacityAt N) lifeAt T ∙ l′ ∙ l;
-        capacity = getD-set-other (set (zeros stateWords) capacityAt N) lifeAt capacityAt T 0 (λ e. omega arith) ∙ getD-set-same (zeros stateWords) capacityAt N 0 (omega arith);
+        capacity =
+            getD-set-other (set (zeros stateWords) capacityAt N) lifeAt capacityAt T 0 (λ e. omega arith)
+            ∙ getD-set-same (zeros stateWords) capacityAt N 0 (omega arith);
         life = getD-set-same (set (zeros stateWords) capacityAt N) lifeAt T 0 (omega arith);
         clock = rest clockAt (omega arith);
         capacity-most = N-most;

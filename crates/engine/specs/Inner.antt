@@ -11,7 +11,7 @@ use Rattle.paper.specs.Window.{Message}
 use Rattle.paper.specs.Log.{Log, judgeFrame, accept, departs}
 use Rattle.paper.specs.Sound.{Queries}
 use Rattle.paper.specs.Threshold.{reached}
-use Rattle.paper.specs.Layout.{slots, clockAt, oldestAt, countAt, recordAt, recordWords}
+use Rattle.paper.specs.Layout.{slots, recordAt, recordWords}
 use Rattle.paper.specs.Demand3.{marked, bitmap}
 use Rattle.memory.specs.Words.{words}
 use Rattle.memory.specs.Keeps.{Keeps}

@@ -1,5 +1,5 @@
 -- Laws of the answers to a frame and to a list reading: what a host hears of the words that were written. Assumes nothing.
-use Prim.Native.Nat.{ℕ, zero, suc, _+_, _/_, _%_, _≤_, _<_, _*_}
+use Prim.Native.Nat.{ℕ, zero, suc, _+_, _%_, _≤_, _<_, _*_}
 use native.Mathlib.Omega.{arith}
 use mathlib.Core.Path.{_≡_, refl, sym, ap, _∙_, subst}
 use mathlib.Core.Logic.{inl}
@@ -146,7 +146,8 @@ module _ (part a : List ℕ) (r : Listing) (h : listAnswer ≤ length a) (lp : l
       let cs : List ℕ = r .list .scores in
       let rest : List ℕ = words (drop listAnswer a) in
       let first : take mostListed ((ss ++ cs) ++ rest) ≡ ss = rw append-assoc (take-at ss (cs ++ rest) mostListed ls) in
-      let second : take mostListed (drop mostListed ((ss ++ cs) ++ rest)) ≡ cs = rw (append-assoc, drop-at ss (cs ++ rest) mostListed ls) (take-at cs rest mostListed lc) in
+      let second : take mostListed (drop mostListed ((ss ++ cs) ++ rest)) ≡ cs =
+      rw (append-assoc, drop-at ss (cs ++ rest) mostListed ls) (take-at cs rest mostListed lc) in
       rw (words-append part (drop listAnswer a) (rw lp), e) (λ i. record { serials = sym first i; scores = sym second i; count = r .list .count })
 
   pub list-accepted : {s : List ℕ} {n : ℕ} → r .number ≡ 0 → ListPost s n r → ListEntry s n a (r .number) (part ++ drop listAnswer a)

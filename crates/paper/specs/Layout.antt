@@ -1,5 +1,5 @@
 -- Where things stand in the state memory, in words of four bytes (docs/STATE.md): every offset and the length follow from document 01's sizes.
--- `src/lib.rt` says the same for the code. Assumes nothing.
+-- `src/layout.rt` says the same for the code. Assumes nothing.
 use Prim.Native.Nat.{ℕ, _+_, _*_, _/_}
 use Rattle.paper.specs.Frame.{mostPairs, mostTerms, mostListed, numbers}
 use Rattle.paper.specs.Window.{mostMessages}

@@ -1,5 +1,5 @@
 -- What is read of a record: its query and its thresholds. Assumes nothing.
-use Prim.Native.Nat.{ℕ, zero, suc, _+_, _*_, _/_, _%_, _≤_, _<_}
+use Prim.Native.Nat.{ℕ, zero, suc, _+_, _-_, _*_, _/_, _%_, _≤_, _<_}
 use native.Mathlib.Nat.{not-suc-le-zero}
 use native.Mathlib.Omega.{arith}
 use mathlib.Core.Path.{_≡_, refl, sym, _∙_}
@@ -9,7 +9,7 @@ use lib.ListN.{length, getD, take, drop, length-take, length-drop, List·getD-eq
 use lib.Seq.{getD-take, getD-drop, ext-getD}
 use lib.Dec.{ltb}
 use borrow.Author.Tests.{ltb-true, ltb-false}
-use Rattle.paper.specs.Frame.{Pair, AllFit, weightWidth, mostTerms, positive}
+use Rattle.paper.specs.Frame.{Pair, AllFit, weightWidth, mostTerms, positive, mostListed}
 use Rattle.paper.specs.Impact.{top}
 use Rattle.paper.specs.Rank as Rank
 use Rattle.paper.specs.Sound.{Terms}
@@ -18,6 +18,7 @@ use Rattle.paper.specs.Write.{side-by-side}
 use Rattle.paper.specs.Layout.{recordAt, sizeIn, pairsIn, thresholdsIn}
 use Rattle.paper.proofs.Tests.{and-true}
 use Rattle.impact.proofs.CellLaws.{rising-side}
+use Rattle.rank.specs.Weights.{weightLimit}
 use Rattle.candidates.specs.declared.Query.{Query}
 use Rattle.query.specs.Record.{Says}
 use Rattle.query.specs.Post.{Clamped, InRange, Is, LoadedQuery, LoadedThresholds}
@@ -31,12 +32,12 @@ part-at w a i h = getD-take 8 (drop a w) i 0 h ∙ getD-drop a w i 0
 
 -- a pair's word gives its term, and its weight
 abbrev pub Term : ℕ → ℕ → Type 0
-Term pair t = t ≡ pair / 16
+Term pair t = t ≡ pair / weightLimit
 
 abbrev pub Weight : ℕ → ℕ → Type 0
-Weight pair u = Clamped 1 15 (pair % 16) u
+Weight pair u = Clamped 1 (weightLimit - 1) (pair % weightLimit) u
 
-weight-range : (qs : List Pair) → AllFit weightWidth qs → positive qs ≡ true → (i : ℕ) → i < length qs → (1 ≤ weightAt qs i) × (weightAt qs i < 16)
+weight-range : (qs : List Pair) → AllFit weightWidth qs → positive qs ≡ true → (i : ℕ) → i < length qs → (1 ≤ weightAt qs i) × (weightAt qs i < weightLimit)
 unfolding positive weightAt
 weight-range [] a e i h = absurd (not-suc-le-zero h)
 weight-range (q ∷ qs) a e zero h = (ltb-true 0 (q .amount) (and-true (ltb 0 (q .amount)) (positive qs) e .0), a .1)
@@ -61,10 +62,10 @@ side-is (q ∷ qs) (t ∷ ts) (u ∷ us) h k e =
     rw (first .0, first .1, rest) refl
 
 -- a pair's word is taken apart again
-apart : {p t u : ℕ} → u < 16 → p ≡ t * 16 + u → (p / 16 ≡ t) × (p % 16 ≡ u)
+apart : {p t u : ℕ} → u < weightLimit → p ≡ t * weightLimit + u → (p / weightLimit ≡ t) × (p % weightLimit ≡ u)
 apart h e = (omega arith, omega arith)
 
-module _ (w : List ℕ) (q : ℕ) (r : Query) (k : Clamped 0 16 (getD w (recordAt q) 0) (r .k)) (n : Clamped 1 8 (getD w (sizeIn q) 0) (r .n))
+module _ (w : List ℕ) (q : ℕ) (r : Query) (k : Clamped 0 mostListed (getD w (recordAt q) 0) (r .k)) (n : Clamped 1 8 (getD w (sizeIn q) 0) (r .n))
     (ts : Filled Term 8 (take 8 (drop (pairsIn q) w)) (r .terms)) (us : Filled Weight 8 (take 8 (drop (pairsIn q) w)) (r .weights)) where
   in-range : InRange r
   in-range = record {

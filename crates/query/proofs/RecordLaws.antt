@@ -10,14 +10,14 @@ use mathlib.Core.Option.{Option, none, some}
 use lib.ListN.{length, getD, take, drop}
 use lib.Dec.{eqb}
 use borrow.Author.Tests.{eq-eqb, ne-eqb}
-use Rattle.paper.specs.Frame.{Pair}
+use Rattle.paper.specs.Frame.{Pair, mostListed}
 use Rattle.paper.specs.Log.{inUse}
 use Rattle.paper.specs.Order.{In}
 use Rattle.paper.specs.Rank.{Query}
 use Rattle.paper.specs.Sort.{select}
 use Rattle.paper.specs.Sound.{Terms}
 use Rattle.paper.specs.Window.{Message}
-use Rattle.paper.specs.Layout.{slots, recordAt, recordWords, sizeIn, pairsIn, listedIn, thresholdsIn, serialsIn, scoresIn, flagsIn}
+use Rattle.paper.specs.Layout.{slots, recordAt, recordWords, sizeIn, pairsIn, listedIn, thresholdsIn, serialsIn, scoresIn, flagsIn, flagWords}
 use Rattle.paper.proofs.SortLaws.{select-in}
 use Rattle.memory.specs.Keeps.{Keeps}
 use Rattle.memory.proofs.KeepsLaws.{keeps-at, keeps-part}
@@ -67,16 +67,16 @@ module _ {a e : ℕ} {w w′ : List ℕ} (kept : Keeps a e w w′) where
 
     pub flags-same : flags w′ q ≡ flags w q
     unfolding flags
-    flags-same = part-same out (flagsIn q) 9 (omega arith) (omega arith)
+    flags-same = part-same out (flagsIn q) flagWords (omega arith) (omega arith)
 
     size-same : getD w′ (listedIn q) 0 ≡ getD w (listedIn q) 0
     size-same = word-same out (listedIn q) (omega arith) (omega arith)
 
-    serials-same : take 16 (drop (serialsIn q) w′) ≡ take 16 (drop (serialsIn q) w)
-    serials-same = part-same out (serialsIn q) 16 (omega arith) (omega arith)
+    serials-same : take mostListed (drop (serialsIn q) w′) ≡ take mostListed (drop (serialsIn q) w)
+    serials-same = part-same out (serialsIn q) mostListed (omega arith) (omega arith)
 
-    scores-same : take 16 (drop (scoresIn q) w′) ≡ take 16 (drop (scoresIn q) w)
-    scores-same = part-same out (scoresIn q) 16 (omega arith) (omega arith)
+    scores-same : take mostListed (drop (scoresIn q) w′) ≡ take mostListed (drop (scoresIn q) w)
+    scores-same = part-same out (scoresIn q) mostListed (omega arith) (omega arith)
 
     pub list-same : list w′ q ≡ list w q
     unfolding list

@@ -8,7 +8,7 @@ use lib.ListN.{length, getD, set, length-set, List·getD-eq-default}
 use lib.Seq.{getD-set-same, getD-set-other}
 use lib.Dec.{ltb}
 use borrow.Author.Count.{below-more}
-use Rattle.paper.specs.Frame.{numbers, Pair}
+use Rattle.paper.specs.Frame.{Pair, numbers, mostTerms}
 use borrow.Author.Tests.{ltb-true, ltb-false}
 use Rattle.paper.specs.Rank as Rank
 use Rattle.paper.specs.Threshold.{termAt, weightAt}
@@ -19,6 +19,7 @@ use Rattle.memory.specs.Words.{words, putWord}
 use Rattle.memory.specs.Keeps.{Keeps, Stored}
 use Rattle.memory.proofs.WordLaws.{put-word, put-length, words-length}
 use Rattle.memory.proofs.KeepsLaws.{keeps-refl, keeps-trans, keeps-wider, keeps-more}
+use Rattle.rank.specs.Weights.{weightLimit}
 use Rattle.candidates.specs.declared.Query.{Query}
 use Rattle.candidates.proofs.TermLaws.{side-at}
 use Rattle.query.specs.Post.{LoadedQuery, Refilled, PutQuery, Registered, Packed}
@@ -44,27 +45,28 @@ module _ (s : List ℕ) {s′ : List ℕ} (a v : ℕ) (put : s′ ≡ putWord s 
 
 pub record Packing (n : ℕ) (ts us ps : List ℕ) (i : ℕ) : Type 0 where
   pub bound : i ≤ n
-  pub wide : length ps ≡ 8
-  pub done : (j : ℕ) → j < i → getD ps j 0 ≡ getD ts j 0 * 16 + getD us j 0
+  pub wide : length ps ≡ mostTerms
+  pub done : (j : ℕ) → j < i → getD ps j 0 ≡ getD ts j 0 * weightLimit + getD us j 0
   pub rest : (j : ℕ) → i ≤ j → getD ps j 0 ≡ 0
 
-pub packing-more : {n : ℕ} {ts us ps : List ℕ} {i : ℕ} → n ≤ 8 → i < n → Packing n ts us ps i → Packing n ts us (set ps i (getD ts i 0 * 16 + getD us i 0)) (i + 1)
+pub packing-more : {n : ℕ} {ts us ps : List ℕ} {i : ℕ} → n ≤ mostTerms → i < n → Packing n ts us ps i
+    → Packing n ts us (set ps i (getD ts i 0 * weightLimit + getD us i 0)) (i + 1)
 packing-more {n} {ts} {us} {ps} {i} most h f =
-    let v : ℕ = getD ts i 0 * 16 + getD us i 0 in
+    let v : ℕ = getD ts i 0 * weightLimit + getD us i 0 in
     record {
       bound = omega arith;
       wide = length-set ps i v ∙ f .wide;
       done =
-          below-more (λ (j : ℕ). getD (set ps i v) j 0 ≡ getD ts j 0 * 16 + getD us j 0) i
+          below-more (λ (j : ℕ). getD (set ps i v) j 0 ≡ getD ts j 0 * weightLimit + getD us j 0) i
           (λ j g. getD-set-other ps i j v 0 (λ e. omega arith) ∙ f .done j g)
           (getD-set-same ps i v 0 (omega (arith, f .wide)));
       rest = λ j g. getD-set-other ps i j v 0 (λ e. omega arith) ∙ f .rest j (omega arith);
     }
 
 -- past the terms the pair is 0 and 0
-no-pair : (qs : List Pair) (i : ℕ) → length qs ≤ i → 0 ≡ termAt qs i * 16 + weightAt qs i
+no-pair : (qs : List Pair) (i : ℕ) → length qs ≤ i → 0 ≡ termAt qs i * weightLimit + weightAt qs i
 unfolding termAt weightAt
-no-pair qs i h = ap (λ (p : Pair). p .term * 16 + p .amount) (sym (List·getD-eq-default qs (record { term = 0; amount = 0 }) {n = i} h))
+no-pair qs i h = ap (λ (p : Pair). p .term * weightLimit + p .amount) (sym (List·getD-eq-default qs (record { term = 0; amount = 0 }) {n = i} h))
 
 pub packed-all : {n : ℕ} {ts us ps : List ℕ} {i : ℕ} → n ≤ i → n ≤ length ts → n ≤ length us → Packing n ts us ps i → Packed (side-by-side n ts us) ps
 packed-all {n} {ts} {us} {ps} {i} h ht hu f j most = go (ltb j n) refl
@@ -72,7 +74,7 @@ packed-all {n} {ts} {us} {ps} {i} h ht hu f j most = go (ltb j n) refl
     long : length (side-by-side n ts us) ≡ n
     long = length-side n ts us ht hu
 
-    go : (b : Bool) → ltb j n ≡ b → getD ps j 0 ≡ termAt (side-by-side n ts us) j * 16 + weightAt (side-by-side n ts us) j
+    go : (b : Bool) → ltb j n ≡ b → getD ps j 0 ≡ termAt (side-by-side n ts us) j * weightLimit + weightAt (side-by-side n ts us) j
     go true e =
         let l = ltb-true j n e in
         let at = side-at n ts us j (omega (arith, long)) in
@@ -80,9 +82,9 @@ packed-all {n} {ts} {us} {ps} {i} h ht hu f j most = go (ltb j n) refl
     go false e = let l = ltb-false j n e in f .rest j (omega (arith, f .bound)) ∙ no-pair (side-by-side n ts us) j (omega (arith, long))
 
 -- the length of the list and the number of terms were written before
-module _ (s₀ s₁ : List ℕ) {s₂ : List ℕ} (q k n : ℕ) (whole : length s₀ ≡ stateLength) (number : q < numbers) (fk : k < 4294967296) (most : n ≤ 8)
+module _ (s₀ s₁ : List ℕ) {s₂ : List ℕ} (q k n : ℕ) (whole : length s₀ ≡ stateLength) (number : q < numbers) (fk : k < 4294967296) (most : n ≤ mostTerms)
     (p : s₁ ≡ putWord s₀ (recordAt q) k) (r : s₂ ≡ putWord s₁ (sizeIn q) n) where
-  pub query-put : (ts us : List ℕ) {ps w : List ℕ} → n ≤ length ts → n ≤ length us → Packed (side-by-side n ts us) ps → Stored (pairsIn q) 8 ps (words s₂) w
+  pub query-put : (ts us : List ℕ) {ps w : List ℕ} → n ≤ length ts → n ≤ length us → Packed (side-by-side n ts us) ps → Stored (pairsIn q) mostTerms ps (words s₂) w
       → PutQuery q (record { k = k; terms = side-by-side n ts us }) (words s₀) w
   query-put ts us {ps} {w} ht hu packed stored =
       let l : length s₁ ≡ length s₀ = ap length p ∙ put-length s₀ (recordAt q) k in

@@ -11,7 +11,7 @@ use lib.ListN.{length, getD, take, replicate, length-map, length-take, List·get
 use lib.Seq.{getD-take, length-take-le}
 use lib.Dec.{ltb}
 use borrow.Author.Tests.{ltb-true, ltb-false, lt-ltb}
-use Rattle.paper.specs.Frame.{Pair}
+use Rattle.paper.specs.Frame.{Pair, mostListed}
 use Rattle.paper.specs.Impact.{top, score}
 use Rattle.paper.specs.Order.{In, entryAt}
 use Rattle.paper.specs.Rank as Rank
@@ -113,9 +113,9 @@ module _ {r : Query} {query : Rank.Query} (is : Is r query) where
 
 -- a list of at most sixteen in its two arrays
 pub record Sixteen (l : Ranked) : Type 0 where
-  pub most : l .count ≤ 16
-  pub serials : length (l .serials) ≡ 16
-  pub scores : length (l .scores) ≡ 16
+  pub most : l .count ≤ mostListed
+  pub serials : length (l .serials) ≡ mostListed
+  pub scores : length (l .scores) ≡ mostListed
 
 module _ {l : Ranked} (es : List Entry) (long : Sixteen l) (shows : linesOf l ≡ lines es) where
   pub count-is : l .count ≡ length es

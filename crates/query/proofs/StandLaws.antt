@@ -8,7 +8,7 @@ use mathlib.Core.List.{List, [], _∷_, _++_, map}
 use lib.ListN.{length, getD, length-map}
 use lib.Dec.{eqb, ltb}
 use borrow.Author.Tests.{eqb-true, eq-eqb, ne-eqb, ltb-true, lt-ltb, le-ltb}
-use Rattle.paper.specs.Frame.{Pair}
+use Rattle.paper.specs.Frame.{Pair, mostListed}
 use Rattle.paper.specs.Impact.{score}
 use Rattle.paper.specs.Order.{In, Ordered}
 use Rattle.paper.specs.Rank as Rank
@@ -59,11 +59,11 @@ module _ {w : List ℕ} {newest : ℕ} {r : Query} {bound : ℕ} where
   newest-none h = record { right = subst (TellsLow w newest r bound true) (sym (le-ltb newest slots h)) (λ rise terms. refl) }
 
 module _ {w : List ℕ} {q : ℕ} {l : Ranked} (list-is : LoadedList w q l) (long : Sixteen l) where
-  lines-are : getD w (listedIn q) 0 ≤ 16 → list w q ≡ linesOf l
+  lines-are : getD w (listedIn q) 0 ≤ mostListed → list w q ≡ linesOf l
   unfolding list
   lines-are most = rw (← list-is .count-is most, ← list-is .serials, ← list-is .scores)
 
-  length-is : getD w (listedIn q) 0 ≤ 16 → length (list w q) ≡ l .count
+  length-is : getD w (listedIn q) 0 ≤ mostListed → length (list w q) ≡ l .count
   length-is most =
       ap length (lines-are most)
       ∙ length-listed (l .count) (l .serials) (l .scores) (omega (arith, long .most, long .serials)) (omega (arith, long .most, long .scores))
@@ -157,8 +157,8 @@ module _ {w : List ℕ} {q o d o′ newest : ℕ} {r : Query} {hs : List ℕ} {a
     same-list =
         rw (
           keeps-at (kept .keeps) (listedIn q) (inl (omega arith)),
-          keeps-part (kept .keeps) (serialsIn q) 16 (inl (omega arith)),
-          keeps-part (kept .keeps) (scoresIn q) 16 (inl (omega arith)),
+          keeps-part (kept .keeps) (serialsIn q) mostListed (inl (omega arith)),
+          keeps-part (kept .keeps) (scoresIn q) mostListed (inl (omega arith)),
         )
 
     flagged : (j : ℕ) → flagOf (flags w′ q) j ≡ (inRing o′ n j && exceedsCells (query .terms) (thresholds w′ q m) (slot w′ j .cells))
@@ -234,9 +234,9 @@ module _ {w : List ℕ} {q o d o′ newest : ℕ} {r : Query} {hs : List ℕ} {a
       no-threshold = λ i a z. keeps-at (kept .keeps) (thresholdsIn q + i) (inl (omega arith)) ∙ holds .no-threshold i a z;
       listed-most = rw (keeps-at (kept .keeps) (listedIn q) (inl (omega arith))) (holds .listed-most);
       no-serial =
-          rw (keeps-at (kept .keeps) (listedIn q) (inl (omega arith)), keeps-part (kept .keeps) (serialsIn q) 16 (inl (omega arith))) (holds .no-serial);
+          rw (keeps-at (kept .keeps) (listedIn q) (inl (omega arith)), keeps-part (kept .keeps) (serialsIn q) mostListed (inl (omega arith))) (holds .no-serial);
       no-score =
-          rw (keeps-at (kept .keeps) (listedIn q) (inl (omega arith)), keeps-part (kept .keeps) (scoresIn q) 16 (inl (omega arith))) (holds .no-score);
+          rw (keeps-at (kept .keeps) (listedIn q) (inl (omega arith)), keeps-part (kept .keeps) (scoresIn q) mostListed (inl (omega arith))) (holds .no-score);
     }
 
   pub kept-again : {n : ℕ} {set : List Bool} → b ≡ true → Updated w q o d o′ n newest set true w′

@@ -7,7 +7,7 @@ use mathlib.Core.List.{List}
 use lib.ListN.{length, getD, take, drop, set, replicate, length-replicate, getD-replicate}
 use lib.Seq.{getD-take, getD-drop, getD-set-same}
 use borrow.Author.Needs.{needs}
-use Rattle.paper.specs.Frame.{numbers}
+use Rattle.paper.specs.Frame.{numbers, mostListed}
 use Rattle.paper.specs.Layout.{stateLength, recordAt, recordWords, listedIn, thresholdsIn, serialsIn, scoresIn, flagsIn}
 use Rattle.memory.specs.Words.{words, putWord}
 use Rattle.memory.specs.Keeps.{Keeps, Stored}
@@ -22,9 +22,9 @@ then : {i n b e : ℕ} {a s t u : List ℕ} → i + n ≤ b → b ≤ e → Stor
 then {i} {n} h k p r =
     (keeps-trans (keeps-wider (omega arith) (omega arith) (p .keeps)) (keeps-wider (omega arith) (omega arith) r), keeps-part r i n (inl h) ∙ p .reads)
 
-module _ (q : ℕ) (list : Ranked) {hs fs : List ℕ} (s t : List ℕ) {w₂ w₃ w₄ w₅ : List ℕ} (long : length s ≡ stateLength) (number : q < numbers) (most : list .count ≤ 16)
+module _ (q : ℕ) (list : Ranked) {hs fs : List ℕ} (s t : List ℕ) {w₂ w₃ w₄ w₅ : List ℕ} (long : length s ≡ stateLength) (number : q < numbers) (most : list .count ≤ mostListed)
     (put : t ≡ putWord s (listedIn q) (list .count)) (eight : Stored (thresholdsIn q) 8 hs (words t) w₂)
-    (serials : Stored (serialsIn q) 16 (list .serials) w₂ w₃) (scores : Stored (scoresIn q) 16 (list .scores) w₃ w₄)
+    (serials : Stored (serialsIn q) mostListed (list .serials) w₂ w₃) (scores : Stored (scoresIn q) mostListed (list .scores) w₃ w₄)
     (nine : Stored (flagsIn q) 9 fs w₄ w₅) where
   -- the five writes, the last first
   pub stored-kept : StoredKept q hs list fs (words s) w₅

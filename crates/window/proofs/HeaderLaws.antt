@@ -1,5 +1,5 @@
 -- The header's words that a frame moves: the clock, the oldest slot and the count. Assumes nothing.
-use Prim.Native.Nat.{ℕ, _+_, _<_, _^_}
+use Prim.Native.Nat.{ℕ, _<_, _^_}
 use native.Mathlib.Omega.{arith}
 use mathlib.Core.Path.{_≡_, ap, _∙_}
 use mathlib.Core.List.{List}
@@ -12,13 +12,15 @@ use Rattle.memory.proofs.KeepsLaws.{keeps-refl, keeps-more}
 use Rattle.window.specs.Cursor.{PutCursor}
 
 -- in words
-cursor-set : (w : List ℕ) (clock oldest count : ℕ) → countAt < length w → PutCursor clock oldest count w (set (set (set w clockAt clock) oldestAt oldest) countAt count)
+cursor-set : (w : List ℕ) (clock oldest count : ℕ) → countAt < length w
+    → PutCursor clock oldest count w (set (set (set w clockAt clock) oldestAt oldest) countAt count)
 cursor-set w clock oldest count h =
     let l₁ = length-set w clockAt clock in
     let l₂ = length-set (set w clockAt clock) oldestAt oldest in
     record {
       keeps =
-          keeps-more (keeps-more (keeps-more (keeps-refl clockAt headerWords w) clockAt clock (omega arith) (omega arith)) oldestAt oldest (omega arith) (omega arith))
+          keeps-more
+          (keeps-more (keeps-more (keeps-refl clockAt headerWords w) clockAt clock (omega arith) (omega arith)) oldestAt oldest (omega arith) (omega arith))
           countAt count (omega arith) (omega arith);
       clock-is =
           getD-set-other (set (set w clockAt clock) oldestAt oldest) countAt clockAt count 0 (λ e. omega arith)

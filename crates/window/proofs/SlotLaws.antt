@@ -82,7 +82,8 @@ module _ (m : ℕ) (ts fs : List ℕ) (ht : m ≤ length ts) (hf : m ≤ length 
 
 -- in words: time, serial and number of cells, then the cells
 slot-written : (j : ℕ) (x : Message) (m : ℕ) (w w′ : List ℕ) → slotAt j + slotWords ≤ length w → m ≤ mostPairs → length (x .pairs) ≡ m
-    → Stored (cellsAt j) m (cellsOf (x .pairs)) (set (set (set w (slotAt j) (x .time)) (slotAt j + serialOffset) (x .serial)) (slotAt j + cellCountOffset) m) w′ → Written j x w w′
+    → Stored (cellsAt j) m (cellsOf (x .pairs)) (set (set (set w (slotAt j) (x .time)) (slotAt j + serialOffset) (x .serial)) (slotAt j + cellCountOffset) m) w′
+    → Written j x w w′
 unfolding slot stored
 slot-written j x m w w′ long few all cells = record {
   keeps =
@@ -123,7 +124,8 @@ slot-written j x m w w′ long few all cells = record {
     size-is : getD w′ (slotAt j + cellCountOffset) 0 ≡ m
     size-is =
         before (slotAt j + cellCountOffset) (omega arith)
-        ∙ getD-set-same w₂ (slotAt j + cellCountOffset) m 0 (let l = length-set w (slotAt j) (x .time) in let k = length-set w₁ (slotAt j + serialOffset) (x .serial) in omega arith)
+        ∙ getD-set-same w₂ (slotAt j + cellCountOffset) m 0
+        (let l = length-set w (slotAt j) (x .time) in let k = length-set w₁ (slotAt j + serialOffset) (x .serial) in omega arith)
 
 -- as the words are put one after the other
 pub message-written : (j : ℕ) (x : Message) (m : ℕ) (s₀ s₁ s₂ s₃ : List ℕ) {w′ : List ℕ} → length s₀ ≡ stateLength → j < slots → m ≤ mostPairs

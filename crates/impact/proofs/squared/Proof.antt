@@ -1,5 +1,5 @@
 -- `squared` meets its contract. Assumes nothing.
-use Prim.Native.Nat.{ℕ, _*_, _-_, _^_, _≤_, _<_}
+use Prim.Native.Nat.{ℕ, _*_, _-_, _^_, _≤_}
 use native.Mathlib.Nat.{mul-le-mul}
 use native.Mathlib.Omega.{arith}
 use mathlib.Core.Path.{_≡_}
@@ -26,7 +26,9 @@ loop-holds c = (omega arith, omega arith, omega arith)
 
 -- a count and its square
 count-most : (c : tie.In-loop Inv-loop μ-loop) → let f = getD (c .before .before .args .t1) (c .before .loop .i) 0 in (f ≤ most) × (f * f ≤ most * most)
-count-most c = let h = c .before .before .pre .1 (c .before .loop .i) (omega arith) in (omega arith, mul-le-mul {n₂ = most} {m₂ = most} (omega arith) (omega arith))
+count-most c =
+    let h = c .before .before .pre .1 (c .before .loop .i) (omega arith) in
+    (omega arith, mul-le-mul {n₂ = most} {m₂ = most} (omega arith) (omega arith))
 
 mul-sum : tie.Need-mul-sum Inv-loop μ-loop
 mul-sum c = let h = count-most c in search needs
