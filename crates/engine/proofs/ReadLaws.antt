@@ -14,13 +14,7 @@ use Rattle.paper.proofs.FrameLaws.{shape-valid}
 use Rattle.frame.specs.declared.Kind.the-variants.{Message, Tick, Register, Unregister, Refused}
 use Rattle.frame.specs.declared.Parsed.{Parsed}
 use Rattle.frame.specs.Read.{answerOf, pairsIn, padded, termArray, amountArray, ReadPost}
-
--- the arrays side by side are the pairs
-beside : (n : ℕ) (ps : List Pair) → length ps ≤ n → side-by-side (length ps) (padded n (map (λ p. p .term) ps)) (padded n (map (λ p. p .amount) ps)) ≡ ps
-unfolding side-by-side
-beside n [] h = refl
-beside zero (p ∷ ps) h = absurd (not-suc-le-zero h)
-beside (suc n) (p ∷ ps) h = ap (λ (l : List Pair). p ∷ l) (beside n ps (le-of-suc-le-suc h))
+use Rattle.frame.proofs.RoundTrip.{beside-padded}
 
 -- each within its field
 within : (n w : ℕ) (ps : List Pair) → AllFit w ps → length ps ≤ n → (i : ℕ) → i < length ps
@@ -59,7 +53,7 @@ read-eight {bytes} {terms} {amounts} {ts} {us} {m} {w} {make} et eu r h = rw (et
 read-pairs : (bytes : List ℕ) (r : Parsed) (ps : List Pair) (w : ℕ) (make : List Pair → Frame) (m : ℕ) → m ≡ length ps → shape bytes ≡ accepted (make ps)
     → AllFit w ps → 1 ≤ length ps → length ps ≤ mostPairs → r .terms ≡ termArray ps → r .amounts ≡ amountArray ps → Read bytes (r .terms) (r .amounts) m w make
 read-pairs bytes r ps w make m em e a least most et ea = rw (et, ea, em) (record {
-  is = e ∙ ap (λ (l : List Pair). accepted (make l)) (sym (beside mostPairs ps most));
+  is = e ∙ ap (λ (l : List Pair). accepted (make l)) (sym (beside-padded mostPairs ps most));
   least = least;
   most = most;
   fit = within mostPairs w ps a most;

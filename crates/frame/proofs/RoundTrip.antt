@@ -42,7 +42,7 @@ length-padded (suc n) [] = ap suc (length-padded n [])
 length-padded (suc n) (x ∷ xs) = ap suc (length-padded n xs)
 
 -- the pairs are found in their arrays again, however long
-beside-padded : (n : ℕ) (ps : List Pair) → length ps ≤ n → side-by-side (length ps) (padded n (map (λ p. p .term) ps)) (padded n (map (λ p. p .amount) ps)) ≡ ps
+pub beside-padded : (n : ℕ) (ps : List Pair) → length ps ≤ n → side-by-side (length ps) (padded n (map (λ p. p .term) ps)) (padded n (map (λ p. p .amount) ps)) ≡ ps
 unfolding side-by-side
 beside-padded n [] h = refl
 beside-padded zero (p ∷ ps) h = absurd (not-suc-le-zero h)

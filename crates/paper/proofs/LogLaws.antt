@@ -3,7 +3,7 @@ use Prim.Native.Nat.{ℕ, zero, suc, _≤_, _<_, _^_}
 use native.Mathlib.Nat.{le-refl}
 use native.Mathlib.Omega.{arith}
 use mathlib.Core.Path.{_≡_, refl, sym, ap, ap₂, _∙_, subst}
-use mathlib.Core.Bool.{Bool, true, false, cond}
+use mathlib.Core.Bool.{true, false}
 use mathlib.Core.List.{List, [], _∷_, _++_, append-nil}
 use mathlib.Core.Option.{Option, none, some}
 use lib.ListN.{length, set, replicate, length-set}
@@ -248,17 +248,19 @@ accept-shape-sound : (log : Log) (x : Shape) → Sound log → ((f : Frame) → 
 accept-shape-sound log (refused r) sound valid ok = sound
 accept-shape-sound log (accepted f) sound valid ok = accept-sound log f sound (valid f refl) ok
 
-pub after-sound : (needed : ℕ) (log : Log) (c : Call) → Sound log → Sound (after needed log c)
-unfolding after judge
-after-sound needed log c sound = go (lent (c .state) (c .output) needed)
-  where
-    shaped : (b : Bool) → eqb (judgeShape log (shape (c .bytes))) 0 ≡ b → Sound (cond b (acceptShape log (shape (c .bytes))) log)
-    shaped true e = accept-shape-sound log (shape (c .bytes)) sound (shape-valid (c .bytes)) (eqb-true (judgeShape log (shape (c .bytes))) 0 e)
-    shaped false e = sound
+-- a call that is not refused has such a shape
+pub shape-judged : (needed : ℕ) (log : Log) (c : Call) → eqb (judge needed log c) 0 ≡ true → judgeShape log (shape (c .bytes)) ≡ 0
+unfolding judge
+shape-judged needed log c e =
+    let z = eqb-true (judge needed log c) 0 e in
+    by-bool (lent (c .state) (c .output) needed) (λ h. rw h at z) (λ h. let t = rw h at z in absurd (omega arith))
 
-    go : (b : Bool) → Sound (cond (eqb (cond b (judgeShape log (shape (c .bytes))) 12) 0) (acceptShape log (shape (c .bytes))) log)
-    go true = shaped (eqb (judgeShape log (shape (c .bytes))) 0) refl
-    go false = sound
+pub after-sound : (needed : ℕ) (log : Log) (c : Call) → Sound log → Sound (after needed log c)
+unfolding after
+after-sound needed log c sound =
+    by-bool (eqb (judge needed log c) 0)
+    (λ e. rw e (accept-shape-sound log (shape (c .bytes)) sound (shape-valid (c .bytes)) (shape-judged needed log c e)))
+    (λ e. rw e sound)
 
 -- whatever is called, the log stays sound: by serial every message in force is known, as demand 3 compares them
 pub replay-sound : (needed : ℕ) (log : Log) (cs : List Call) → Sound log → Sound (replay needed log cs)

@@ -20,9 +20,10 @@ use Rattle.paper.specs.Window.{Message}
 use Rattle.paper.specs.Rank.{Query}
 use Rattle.paper.specs.Order.{In}
 use Rattle.paper.specs.Threshold.{Kept, reached}
-use Rattle.paper.specs.Log.{Log, Call, queryAt, inUse, lent, judgeShape, judgeFrame, judgeKind, judge, accept, acceptShape, after, seen}
+use Rattle.paper.specs.Log.{Log, Call, queryAt, inUse, judgeShape, judgeFrame, judgeKind, judge, accept, acceptShape, after, seen}
 use Rattle.paper.specs.Demand3.{Keeping, SettledAt, AllSettled, names, reachedBy, marked, bitmap, Reply, marksShape, replyTo, markedShape, markedBy, movedShape, moved, ExceedsKept, Answered}
 use Rattle.paper.proofs.Tests.{by-bool, not-refused}
+use Rattle.paper.proofs.LogLaws.{shape-judged}
 use Rattle.paper.proofs.ThresholdLaws.{reached-exactly}
 
 -- ---- bit q of the number whose bits are tests
@@ -112,22 +113,13 @@ module _ (log : Log) (kept : Keeping) (n : ℕ) (q q′ : Query) (before : query
   -- so it is marked where it is reached
   marked-reached : (needed : ℕ) (c : Call) → queryAt (after needed log c) n ≡ some q′
       → markedBy needed log kept c n ≡ reachedBy (queryAt log n) (kept n) (moved needed log c)
-  unfolding markedBy moved after judge
-  marked-reached needed c a = go (lent (c .state) (c .output) needed) a
-    where
-      x : Shape
-      x = shape (c .bytes)
-
-      shaped : (b : Bool) → eqb (judgeShape log x) 0 ≡ b → queryAt (cond b (acceptShape log x) log) n ≡ some q′
-          → cond b (markedShape log kept x n) false ≡ reachedBy (queryAt log n) (kept n) (λ q. cond b (movedShape log x q) [])
-      shaped true e a = marked-shape x (eqb-true (judgeShape log x) 0 e) a
-      shaped false e a = sym (none-reaches (queryAt log n) (kept n))
-
-      go : (b : Bool) → queryAt (cond (eqb (cond b (judgeShape log x) 12) 0) (acceptShape log x) log) n ≡ some q′
-          → cond (eqb (cond b (judgeShape log x) 12) 0) (markedShape log kept x n) false
-          ≡ reachedBy (queryAt log n) (kept n) (λ q. cond (eqb (cond b (judgeShape log x) 12) 0) (movedShape log x q) [])
-      go true a = shaped (eqb (judgeShape log x) 0) refl a
-      go false a = sym (none-reaches (queryAt log n) (kept n))
+  unfolding markedBy moved after
+  marked-reached needed c a =
+      let x : Shape = shape (c .bytes) in
+      let Marks : Bool → Type 0 = λ b. cond b (markedShape log kept x n) false ≡ reachedBy (queryAt log n) (kept n) (λ q. cond b (movedShape log x q) []) in
+      by-bool (eqb (judge needed log c) 0)
+      (λ e. subst Marks (sym e) (marked-shape x (shape-judged needed log c e) (rw e at a)))
+      (λ e. subst Marks (sym e) (sym (none-reaches (queryAt log n) (kept n))))
 
 -- reached by what is kept of a settled query
 reached-kept : (q : Query) (now : Query → List Message) (x : Option Kept) (ms : Query → List Message) → SettledAt (some q) now x

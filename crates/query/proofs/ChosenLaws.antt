@@ -1,7 +1,7 @@
 -- Slots chosen from the window and the messages that they hold. Assumes nothing.
 use Prim.Native.Nat.{ℕ}
 use mathlib.Core.Path.{_≡_, refl, sym, ap, _∙_, subst}
-use mathlib.Core.Bool.{Bool, true, false, cond, _||_}
+use mathlib.Core.Bool.{Bool, false, _||_}
 use mathlib.Core.Logic.{inl, inr, ⊎-elim}
 use mathlib.Core.List.{List, [], _∷_, _++_, map, map-map}
 use Rattle.paper.specs.Frame.{Pair, Pairs, countWidth, mostPairs}
@@ -11,7 +11,7 @@ use Rattle.paper.specs.Rank.{serials}
 use Rattle.paper.specs.Window.{Message}
 use Rattle.paper.specs.Threshold.{exceeds, reached, candidates}
 use Rattle.paper.specs.Sound.{Messages}
-use Rattle.paper.proofs.Tests.{or-false}
+use Rattle.paper.proofs.Tests.{by-bool, or-false}
 use Rattle.paper.proofs.SortLaws.{select-map}
 use Rattle.window.specs.Slot.{Slot, slot, stored, ring, window}
 use Rattle.candidates.specs.Match.{exceedsCells, reachedSlots, AllRising}
@@ -28,11 +28,9 @@ messages-in m (x ∷ ms) v (inr i) = messages-in m ms (v .2) i
 pub messages-select : (test : Message → Bool) (ms : List Message) → Messages ms → Messages (select test ms)
 unfolding select
 messages-select test [] v = tt
-messages-select test (m ∷ ms) v = go (test m) (messages-select test ms (v .2))
-  where
-    go : (b : Bool) → Messages (select test ms) → Messages (cond b (m ∷ select test ms) (select test ms))
-    go true ih = (v .0, v .1, ih)
-    go false ih = ih
+messages-select test (m ∷ ms) v =
+    let ih = messages-select test ms (v .2) in
+    by-bool (test m) (λ e. rw e (v .0, v .1, ih)) (λ e. rw e ih)
 
 -- ---- slots that exceed a threshold
 
@@ -74,12 +72,7 @@ serials-of w js ms e =
 pub reached-append : (qs : List Pair) (hs : List ℕ) (xs ys : List Message) → reached qs hs (xs ++ ys) ≡ (reached qs hs xs || reached qs hs ys)
 unfolding reached
 reached-append qs hs [] ys = refl
-reached-append qs hs (x ∷ xs) ys = go (exceeds qs hs (x .pairs)) (reached-append qs hs xs ys)
-  where
-    go : (b : Bool) → reached qs hs (xs ++ ys) ≡ (reached qs hs xs || reached qs hs ys)
-        → (b || reached qs hs (xs ++ ys)) ≡ ((b || reached qs hs xs) || reached qs hs ys)
-    go true ih = refl
-    go false ih = ih
+reached-append qs hs (x ∷ xs) ys = by-bool (exceeds qs hs (x .pairs)) (λ e. rw e) (λ e. rw e (reached-append qs hs xs ys))
 
 -- none of the slots does where they aren't reached
 pub unreached-slot : (qs : List Pair) (hs w js : List ℕ) → reachedSlots qs hs (map (slot w) js) ≡ false

@@ -205,7 +205,7 @@ pub record Updated (w : List ℕ) (q o d o′ count newest : ℕ) (set : List Bo
 
 -- the words of some pairs, 0 past them
 abbrev pub Packed : List Pair → List ℕ → Type 0
-Packed qs r = (i : ℕ) → i < mostTerms → getD r i 0 ≡ termAt qs i * 16 + weightAt qs i
+Packed qs r = (i : ℕ) → i < mostTerms → getD r i 0 ≡ termAt qs i * weightLimit + weightAt qs i
 
 -- a query is written, with nothing kept of it yet
 pub record PutQuery (q : ℕ) (query : Rank.Query) (w w′ : List ℕ) : Type 0 where

@@ -17,7 +17,7 @@ abbrev μ-loop : tie.MeasureT-loop
 
 -- the pair at i is within its ranges
 fit : (c : tie.In-loop Inv-loop μ-loop)
-    → let a = c .before .before .args in let i = c .before .loop .i in (getD (a .t2) i 0 < 1024) × (getD (a .t3) i 0 < 16)
+    → let a = c .before .before .args in let i = c .before .loop .i in (getD (a .t2) i 0 < termLimit) × (getD (a .t3) i 0 < weightLimit)
 fit c = c .before .before .pre .1 (c .before .loop .i) (omega arith)
 
 pub packed-spec : {M : Type 1} → statement M
