@@ -2,6 +2,8 @@
 
 PREFIX = /usr/local
 archive = target/staticlib/libfennelrake.a
+# the folders too: a file that has gone leaves its folder newer
+sources = crates.txt $(shell find crates/*/src crates/*/specs crates/*/proofs)
 
 .PHONY: sample test install
 
@@ -23,6 +25,6 @@ install: $(archive)
 	sed 's|@PREFIX@|$(abspath $(PREFIX))|' fennelrake.pc.in > $(DESTDIR)$(PREFIX)/lib/pkgconfig/fennelrake.pc
 	chmod 644 $(DESTDIR)$(PREFIX)/lib/pkgconfig/fennelrake.pc
 
-# Made where it isn't there; after a change to a crate, `rt staticlib fennelrake` makes it again.
-$(archive):
+# Made where it isn't there, and made again where a source of the crates is newer, has come or has gone.
+$(archive): $(sources)
 	rt staticlib fennelrake

@@ -3,6 +3,8 @@ use Prim.Native.Nat.{_-_, _<_}
 use native.Mathlib.Omega.{arith}
 use mathlib.Core.Path.{refl}
 use lib.ListN.{getD}
+use Rattle.rank.specs.Weights.{weightLimit}
+use Rattle.window.specs.Terms.{termLimit}
 use borrow.Author.Needs.{needs}
 use Rattle.candidates.proofs.FlagLaws.{zero-at}
 use Rattle.query.proofs.RegisterLaws.{Packing, packing-more, packed-all}
