@@ -159,7 +159,8 @@ module _ (log : Log) (f : Frame) (w : List ℕ) (r : Represents log w) (v : Vali
             sound = accept-sound log f (r .sound) v ok;
             records = λ q h.
                 subst₂ (λ (a b : ℕ). HoldsAt w₃ q a b (seen (accept log f)) (queryAt (accept log f) q)) (sym at) (sym many)
-                (subst₂ (λ (ms : List Message). HoldsAt w₃ q o′ (n′ + length (arrivals f)) (λ _. ms)) (sym (in-force-after log f (r .sound) ok)) (sym (stable q .0)) (done .0 q h));
+                (subst₂ (λ (ms : List Message). HoldsAt w₃ q o′ (n′ + length (arrivals f)) (λ _. ms))
+                (sym (in-force-after log f (r .sound) ok)) (sym (stable q .0)) (done .0 q h));
           }
 
       -- a query is marked where the frame reaches it

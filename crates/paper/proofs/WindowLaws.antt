@@ -78,7 +78,8 @@ module _ (N T : ℕ) where
   departing-remaining t t′ more [] = empty
   departing-remaining t t′ more (m ∷ l) = go (standing N T t (length l) m) (standing N T t′ (length l + more) m) (departing-remaining t t′ more l)
     where
-      go : (b d : Bool) {all gone stay : List Message} → Split all gone stay → Split (cond b (m ∷ all) all) (cond (b && not d) (m ∷ gone) gone) (cond (b && d) (m ∷ stay) stay)
+      go : (b d : Bool) {all gone stay : List Message} → Split all gone stay
+          → Split (cond b (m ∷ all) all) (cond (b && not d) (m ∷ gone) gone) (cond (b && d) (m ∷ stay) stay)
       go true true s = remains s
       go true false s = goes s
       go false d s = s
