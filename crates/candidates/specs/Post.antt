@@ -16,7 +16,7 @@ use Rattle.wire.specs.Bits.{val, bits}
 use Rattle.impact.specs.Cell.{RisingCells, RisingTerms}
 use Rattle.rank.specs.declared.Ranked.{Ranked}
 use Rattle.rank.specs.Listing.{linesOf, Tidy, grown}
-use Rattle.window.specs.Terms.{termLimit, inSet}
+use Rattle.window.specs.Terms.{termLimit, SetOf}
 use Rattle.window.specs.Slot.{slot, ring, window}
 use Rattle.candidates.specs.declared.Query.{Query}
 use Rattle.candidates.specs.Match.{scoreCells, exceedsCells, reachedSlots, lowSlots, scored, AllRising}
@@ -109,9 +109,13 @@ pub record Sifted (w : List ℕ) (first count : ℕ) (fs : List ℕ) (q : Query)
 
 -- ---- the window scanned
 
--- the set has the query's terms
+-- the first n of a query's terms, each brought into range whatever memory says
+abbrev pub wanted : ℕ → List ℕ → List ℕ
+wanted n ts = map (λ t. t % termLimit) (take n ts)
+
+-- the set has the query's terms and no other
 abbrev pub Wanted : Query → List Bool → Type 0
-Wanted q set = (i : ℕ) → i < q .n → inSet set (getD (q .terms) i 0 % termLimit) ≡ true
+Wanted q set = SetOf (wanted (q .n) (q .terms)) set
 
 -- the flags of all in the window that exceed one of the thresholds
 pub record Flagging (w : List ℕ) (first count : ℕ) (q : Query) (hs : List ℕ) (r : List ℕ) : Type 0 where

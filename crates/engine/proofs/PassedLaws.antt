@@ -2,7 +2,7 @@
 use Prim.Native.Nat.{ℕ, _+_, _<_, _^_}
 use native.Mathlib.Nat.{add-zero, not-suc-le-zero}
 use native.Mathlib.Omega.{arith}
-use mathlib.Core.Path.{_≡_, refl, sym, ap, _∙_, subst}
+use mathlib.Core.Path.{_≡_, refl, sym, ap, ap₂, _∙_, subst}
 use mathlib.Core.Logic.{inl, inr}
 use mathlib.Core.Bool.{Bool, true, false, cond, not, true≢false, false≢true}
 use mathlib.Core.List.{List, [], _∷_, _++_, map}
@@ -21,11 +21,10 @@ use Rattle.paper.specs.Demand3.{bitmap}
 use Rattle.memory.specs.Keeps.{Keeps}
 use Rattle.memory.proofs.KeepsLaws.{keeps-refl, keeps-trans, keeps-wider}
 use Rattle.window.specs.Slot.{Slot, slot}
-use Rattle.window.specs.Terms.{inSet, termOf}
+use Rattle.window.specs.Terms.{slotTerms, SetOf}
 use Rattle.window.proofs.SlotLaws.{slot-kept, window-kept}
-use Rattle.candidates.proofs.MatchLaws.{in-ring}
 use Rattle.query.specs.Record.{HoldsAt}
-use Rattle.query.specs.Post.{Change, arriving, HasTerms, Covers, Updated}
+use Rattle.query.specs.Post.{Change, arriving, Covers, Updated}
 use Rattle.query.proofs.RecordLaws.{thresholds-same, holds-at-same, in-use-is}
 use Rattle.engine.specs.Inner.{SameRecord, reachedIn, Passed}
 use Rattle.engine.proofs.MarkLaws.{bitmap-next, marks-below}
@@ -57,15 +56,9 @@ module _ {e : ℕ} {w v : List ℕ} (kept : Keeps (recordAt 0) e w v) where
     valid-new = c .valid-new;
   }
 
-  has-kept : (set : List Bool) (j : ℕ) → j < slots → HasTerms w set j → HasTerms v set j
-  has-kept set j h has =
-      subst (λ (x : Slot). (i : ℕ) → i < length (x .cells) → inSet set (termOf (x .cells) i) ≡ true) (sym (slot-kept kept j (inl (omega arith)))) has
-
-  covers-kept : {o d newest : ℕ} {set : List Bool} → o < slots → Covers w o d newest set → Covers v o d newest set
-  covers-kept {o} {d} {newest} {set} ho c = record {
-    gone = λ j m. has-kept set j (in-ring o d j ho m .0) (c .gone j m);
-    come = λ h. has-kept set newest h (c .come h);
-  }
+  covers-kept : (o d newest : ℕ) {set : List Bool} → o < slots → Covers w o d newest set → Covers v o d newest set
+  covers-kept o d newest {set} ho c =
+      subst (λ (xs : List Slot). SetOf (slotTerms xs) set) (sym (ap₂ _++_ (window-kept kept (inl (omega arith)) o d ho) (arriving-kept newest))) c
 
 -- ---- the pass
 
@@ -152,7 +145,8 @@ module _ (q : ℕ) (w v : List ℕ) {o d o′ count newest marks : ℕ} (below :
         where
           one : Turned v q o d o′ count newest r u
           one s aa ga sa ca none t c size h = absurd (false≢true (sym (in-use-is v q o (d + s) (λ _. aa) none t h) ∙ sym test ∙ e))
-          one s aa ga sa ca (some y) t c size h = updated .right s aa ga sa ca y (covers-kept (passed .keeps) (c .first-below) covers) c size (t y refl) h
+          one s aa ga sa ca (some y) t c size h =
+              updated .right s aa ga sa ca y (covers-kept (passed .keeps) o d newest (c .first-below) covers) c size (t y refl) h
 
       pub turn-unreached : r ≡ false → {v′ : List ℕ} {marks′ : ℕ} → v′ ≡ u → marks′ ≡ marks → Passed (q + 1) w o d o′ count newest marks′ v′
       turn-unreached k same more = rw (same, more) (rw (k, add-zero) at turn-used)

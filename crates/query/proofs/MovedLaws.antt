@@ -1,42 +1,36 @@
--- The set of terms of the messages that go and come. Assumes nothing.
+-- The terms of the messages that go and come, put into a set slot by slot. Assumes nothing.
 use Prim.Native.Nat.{ℕ, _-_, _≤_, _<_}
-use native.Mathlib.Omega.{arith}
-use mathlib.Core.Path.{sym, subst}
-use mathlib.Core.Bool.{Bool}
-use mathlib.Core.Logic.{_⊎_, inl, inr, ⊎-elim}
-use mathlib.Core.List.{List, _∷_}
-use Rattle.paper.specs.Order.{In}
+use mathlib.Core.Path.{subst, _≡_}
+use mathlib.Core.Bool.{Bool, cond}
+use mathlib.Core.List.{List, _∷_, [], _++_, map}
 use Rattle.paper.specs.Layout.{slots}
-use Rattle.window.specs.Slot.{slot, next, ring}
-use Rattle.window.specs.Terms.{termOf, Added}
+use Rattle.window.specs.Slot.{slot, next, window}
+use Rattle.window.specs.Terms.{Added, cellTerms, slotTerms}
+use lib.Dec.{ltb}
+use borrow.Author.Tests.{lt-ltb, le-ltb}
 use Rattle.window.proofs.RingLaws.{ring-step, ring-none}
-use Rattle.query.specs.Post.{HasTerms, Covers}
+use Rattle.window.proofs.TermLaws.{Adding, adding-more, adding-all}
+use Rattle.query.specs.Post.{arriving}
 
--- the terms of the slots from slot o on are in the set, but for the n from slot j on that are left
-pub record Gathered (w : List ℕ) (o d j n : ℕ) (set : List Bool) : Type 0 where
-  done : (i : ℕ) → In i (ring o d) → In i (ring j n) ⊎ HasTerms w set i
+-- the terms of the n slots from slot j on and of the arriving message are left
+abbrev pub Left : List ℕ → List Bool → List ℕ → (newest j n : ℕ) → List Bool → Type 0
+Left all first w newest j n set = Adding all first (slotTerms (window w j n ++ map (slot w) (arriving newest))) set
 
-pub gather-start : (w : List ℕ) (o d : ℕ) (set : List Bool) → Gathered w o d o d set
-gather-start w o d set = record { done = λ i m. inl m }
-
--- what is in the set stays in it
-kept : (w : List ℕ) (set set′ : List Bool) (j i : ℕ) → Added (slot w j .cells) set set′ → HasTerms w set i → HasTerms w set′ i
-kept w set set′ j i added has k l = added .keeps (termOf (slot w i .cells) k) (has k l)
-
-module _ (w : List ℕ) (o d j n : ℕ) (set : List Bool) (g : Gathered w o d j n set) where
-  pub gather-step : (set′ : List Bool) → 0 < n → Added (slot w j .cells) set set′ → Gathered w o d (next j) (n - 1) set′
-  gather-step set′ some added = record { done = λ i m. ⊎-elim (λ k. here i (subst (In i) (ring-step j n some) k)) (λ h. inr (kept w set set′ j i added h)) (g .done i m) }
-    where
-      here : (i : ℕ) → In i (j ∷ ring (next j) (n - 1)) → In i (ring (next j) (n - 1)) ⊎ HasTerms w set′ i
-      here i (inl e) = inr (subst (HasTerms w set′) (sym e) (added .has))
-      here i (inr k) = inl k
+module _ {all : List ℕ} {first : List Bool} (w : List ℕ) (newest j n : ℕ) {set : List Bool} (left : Left all first w newest j n set) where
+  pub left-step : {set′ : List Bool} → 0 < n → Added (cellTerms (slot w j .cells)) set set′ → Left all first w newest (next j) (n - 1) set′
+  left-step some added =
+      adding-more (cellTerms (slot w j .cells)) (slotTerms (window w (next j) (n - 1) ++ map (slot w) (arriving newest))) added
+      (subst (λ (js : List ℕ). Adding all first (slotTerms (map (slot w) js ++ map (slot w) (arriving newest))) set) (ring-step j n some) left)
 
   module _ (none : n ≤ 0) where
-    all : (i : ℕ) → In i (ring o d) → HasTerms w set i
-    all i m = ⊎-elim (λ k. absurd (subst (In i) (ring-none j n none) k)) (λ h. h) (g .done i m)
+    -- the arriving message is left, where there is one
+    last : {b : Bool} → ltb newest slots ≡ b → Adding all first (slotTerms (map (slot w) (cond b (newest ∷ []) []))) set
+    last e =
+        subst (λ (b : Bool). Adding all first (slotTerms (map (slot w) (cond b (newest ∷ []) []))) set) e
+        (subst (λ (js : List ℕ). Adding all first (slotTerms (map (slot w) js ++ map (slot w) (arriving newest))) set) (ring-none j n none) left)
 
-    pub covers-one : (newest : ℕ) (set′ : List Bool) → Added (slot w newest .cells) set set′ → Covers w o d newest set′
-    covers-one newest set′ added = record { gone = λ i m. kept w set set′ newest i added (all i m); come = λ _. added .has }
+    pub left-one : {set′ : List Bool} → newest < slots → Added (cellTerms (slot w newest .cells)) set set′ → Added all first set′
+    left-one h added = adding-all (adding-more (cellTerms (slot w newest .cells)) [] added (last (lt-ltb newest slots h)))
 
-    pub covers-none : (newest : ℕ) → slots ≤ newest → Covers w o d newest set
-    covers-none newest h = record { gone = all; come = λ l. absurd (omega arith) }
+    pub left-none : slots ≤ newest → Added all first set
+    left-none h = adding-all (last (le-ltb newest slots h))

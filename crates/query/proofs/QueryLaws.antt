@@ -4,8 +4,8 @@ use native.Mathlib.Nat.{not-suc-le-zero}
 use native.Mathlib.Omega.{arith}
 use mathlib.Core.Path.{_≡_, refl, sym, _∙_}
 use mathlib.Core.Bool.{Bool, true, false}
-use mathlib.Core.List.{List, [], _∷_}
-use lib.ListN.{length, getD, take, drop, length-take, length-drop, List·getD-eq-default}
+use mathlib.Core.List.{List, [], _∷_, map}
+use lib.ListN.{length, getD, take, drop, length-take, length-drop, List·getD-eq-default, List·getD-map}
 use lib.Seq.{getD-take, getD-drop, ext-getD}
 use lib.Dec.{ltb}
 use borrow.Author.Tests.{ltb-true, ltb-false}
@@ -43,11 +43,16 @@ weight-range [] a e i h = absurd (not-suc-le-zero h)
 weight-range (q ∷ qs) a e zero h = (ltb-true 0 (q .amount) (and-true (ltb 0 (q .amount)) (positive qs) e .0), a .1)
 weight-range (q ∷ qs) a e (suc i) h = weight-range qs (a .2) (and-true (ltb 0 (q .amount)) (positive qs) e .1) i (omega arith)
 
-term-range : (qs : List Pair) → AllFit weightWidth qs → (i : ℕ) → i < length qs → termAt qs i < 1024
+pub term-range : (qs : List Pair) → AllFit weightWidth qs → (i : ℕ) → i < length qs → termAt qs i < 1024
 unfolding termAt
 term-range [] a i h = absurd (not-suc-le-zero h)
 term-range (q ∷ qs) a zero h = a .0
 term-range (q ∷ qs) a (suc i) h = term-range qs (a .2) i (omega arith)
+
+-- the place of a query's term among its terms
+pub term-at : (qs : List Pair) (i : ℕ) → getD (map (λ p. p .term) qs) i 0 ≡ termAt qs i
+unfolding termAt
+term-at qs i = List·getD-map (λ (p : Pair). p .term) qs i (record { term = 0; amount = 0 })
 
 -- two arrays that start with these terms and weights
 side-is : (qs : List Pair) (ts us : List ℕ) → length qs ≤ length ts → length qs ≤ length us

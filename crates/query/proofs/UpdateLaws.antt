@@ -5,7 +5,7 @@ use mathlib.Core.Path.{_≡_, refl, sym, ap, ap₂, _∙_, subst}
 use mathlib.Core.Bool.{Bool, true, false, cond, _&&_, _||_, and-false, or-comm, or-false, false≢true, true≢false}
 use mathlib.Core.Logic.{inl, inr, ⊎-elim}
 use mathlib.Core.List.{List, [], _∷_, _++_, map, map-append}
-use lib.ListN.{length, getD, take, drop, length-take, List·getD-eq-default}
+use lib.ListN.{length, getD, take, drop, length-take, List·getD-eq-default, length-map}
 use lib.Seq.{take-take, getD-take, getD-drop}
 use lib.Dec.{eqb, ltb}
 use borrow.Author.Tests.{eqb-true, eqb-false, ltb-true, lt-ltb, le-ltb}
@@ -15,15 +15,17 @@ use Rattle.paper.specs.Rank as Rank
 use Rattle.paper.specs.Sort.{select}
 use Rattle.paper.specs.Window.{Message}
 use Rattle.paper.specs.Sound.{Messages, Terms}
-use Rattle.paper.specs.Threshold.{reached, Settled}
+use Rattle.paper.specs.Threshold.{reached, Settled, termAt}
 use Rattle.paper.specs.Layout.{slots, recordAt, recordWords, listedIn, thresholdsIn}
 use Rattle.paper.proofs.Tests as Tests
 use Rattle.paper.proofs.LogLaws.{messages-append, messages-split}
 use Rattle.paper.proofs.SortLaws.{in-append, in-left, in-stay, in-split, select-change}
 use Rattle.paper.proofs.ThresholdLaws.{skip}
 use Rattle.memory.proofs.KeepsLaws.{keeps-refl}
-use Rattle.window.specs.Slot.{slot, stored, ring, window}
-use Rattle.window.specs.Terms.{inSet}
+use Rattle.window.specs.Slot.{slot, stored, ring, window, Slot}
+use Rattle.window.specs.Terms.{termOf, cellTerms}
+use Rattle.impact.specs.Cell.{cellTerm}
+use Rattle.window.proofs.TermLaws.{term-of, none-in, has-some, slots-have}
 use Rattle.candidates.specs.declared.Query.{Query}
 use Rattle.candidates.specs.Match.{exceedsCells, reachedSlots, AllRising}
 use Rattle.candidates.specs.Flags.{flagOf, inRing}
@@ -31,8 +33,9 @@ use Rattle.candidates.specs.Post.{termsOf, Rising, exceedsIn, Exceeding, Reachi
 use Rattle.candidates.proofs.MatchLaws.{slot-in, in-ring, ring-in}
 use Rattle.candidates.proofs.TermLaws.{exceeds-missing}
 use Rattle.query.specs.Record.{thresholds, flags, list, candidates, keptOf, Holds}
-use Rattle.query.specs.Post.{Is, LoadedQuery, LoadedThresholds, Over, arriving, Arriving, Reached, Arrived, Change, reaches, SettledFrom, HasTerms, Covers, Shares, Updated}
+use Rattle.query.specs.Post.{Is, LoadedQuery, LoadedThresholds, Over, arriving, Arriving, Reached, Arrived, Change, reaches, SettledFrom, Covers, Shares, Updated}
 use Rattle.query.proofs.ChosenLaws.{slots-rise, slots-reached, reached-append, unreached-slot}
+use Rattle.query.proofs.QueryLaws.{term-at, term-range}
 use Rattle.query.proofs.SettleLaws.{lt-or-ge}
 
 -- ---- the query as it is loaded
@@ -244,24 +247,29 @@ module _ {w : List ℕ} {q o d o′ newest : ℕ} {set : List Bool} (apart : Sha
   module _ {s : ℕ} {aa ga sa ca : List Message} {query : Rank.Query} (covers : Covers w o d newest set) (change : Change w o d o′ s newest aa ga sa ca)
       (terms : Terms query) (holds : Holds w q o (d + s) aa query) where
     -- no slot with such terms exceeds a threshold
-    missing : (hs : List ℕ) (j : ℕ) → HasTerms w set j → exceedsCells (query .terms) hs (slot w j .cells) ≡ false
-    missing hs j has =
-        exceeds-missing (query .terms) hs (slot w j .cells)
-        (λ i h k l e. false≢true (sym (apart .none refl query terms (holds .says) i h) ∙ ap (inSet set) (sym e) ∙ has k l))
+    missing : (hs : List ℕ) (x : Slot) → In x (window w o d ++ map (slot w) (arriving newest)) → exceedsCells (query .terms) hs (x .cells) ≡ false
+    missing hs x m = exceeds-missing (query .terms) hs (x .cells) never
+      where
+        never : (i : ℕ) → i < length (query .terms) → (k : ℕ) → k < length (x .cells) → termOf (x .cells) k ≡ termAt (query .terms) i → ⊥
+        never i h k l e =
+            let t : ℕ = termAt (query .terms) i in
+            let none = none-in set (map (λ p. p .term) (query .terms)) (sym (apart .is query terms (holds .says))) i (omega (arith, length-map (query .terms) (λ p. p .term))) in
+            let has = slots-have t (window w o d ++ map (slot w) (arriving newest)) x m (has-some t (cellTerms (x .cells)) k (omega (arith, length-map (x .cells) cellTerm)) (term-of (x .cells) k ∙ e)) in
+            false≢true (sym none ∙ rw (term-at (query .terms) i) (covers .is t (term-range (query .terms) (terms .terms .fit) i h) ∙ has))
 
-    none-of : (hs js : List ℕ) → ((j : ℕ) → In j js → HasTerms w set j) → reachedSlots (query .terms) hs (map (slot w) js) ≡ false
+    none-of : (hs : List ℕ) (xs : List Slot) → ((x : Slot) → In x xs → In x (window w o d ++ map (slot w) (arriving newest))) → reachedSlots (query .terms) hs xs ≡ false
     unfolding reachedSlots
-    none-of hs [] has = refl
-    none-of hs (j ∷ js) has = rw (missing hs j (has j (inl refl))) (none-of hs js (λ i m. has i (inr m)))
+    none-of hs [] among = refl
+    none-of hs (x ∷ xs) among = rw (missing hs x (among x (inl refl))) (none-of hs xs (λ y m. among y (inr m)))
 
     unreached : reaches w q ga ca query ≡ false
     unreached =
         let hs = thresholds w q (length (query .terms)) in
         reached-append (query .terms) hs ga ca
         ∙ ap₂ _||_
-        (sym (slots-reached w (ring o d) ga (valid-gone change) (change .gone) (query .terms) hs) ∙ none-of hs (ring o d) (covers .gone))
+        (sym (slots-reached w (ring o d) ga (valid-gone change) (change .gone) (query .terms) hs) ∙ none-of hs (window w o d) (λ x m. in-left x (window w o d) (map (slot w) (arriving newest)) m))
         (sym (slots-reached w (arriving newest) ca (valid-come change) (change .come) (query .terms) hs)
-        ∙ none-of hs (arriving newest) (λ j m. let p = in-arriving j newest m in subst (HasTerms w set) (sym (p .0)) (covers .come (p .1))))
+        ∙ none-of hs (map (slot w) (arriving newest)) (λ x m. in-right x (window w o d) (map (slot w) (arriving newest)) m))
 
   pub unshared : {n : ℕ} → Updated w q o d o′ n newest set false w
   unshared = record {

@@ -10,7 +10,7 @@ use Rattle.paper.specs.Impact.{top}
 use Rattle.paper.specs.Rank.{lines, ranking}
 use Rattle.paper.specs.Rank as Rank
 use Rattle.paper.specs.Window.{Message}
-use Rattle.paper.specs.Order.{In, Split}
+use Rattle.paper.specs.Order.{Split}
 use Rattle.paper.specs.Threshold.{thresholdSum, lastScore, reached, termAt, weightAt}
 use Rattle.paper.specs.Layout.{slots, recordAt, recordWords, thresholdsIn, serialsIn, scoresIn, flagsIn, listedIn, flagWords}
 use Rattle.paper.specs.Sound.{Messages, Terms}
@@ -20,7 +20,7 @@ use Rattle.rank.specs.declared.Ranked.{Ranked}
 use Rattle.rank.specs.Listing.{linesOf, lastOf, Tidy}
 use Rattle.rank.specs.Weights.{weightLimit, weightedSum, Raised}
 use Rattle.window.specs.Slot.{slot, stored, ring, window}
-use Rattle.window.specs.Terms.{inSet, termOf}
+use Rattle.window.specs.Terms.{anyIn, slotTerms, SetOf}
 use Rattle.candidates.specs.declared.Query.{Query}
 use Rattle.candidates.specs.Match.{exceedsCells, reachedSlots, lowSlots, AllRising}
 use Rattle.candidates.specs.Flags.{flagOf, inRing}
@@ -182,19 +182,17 @@ pub record Change (w : List ℕ) (o d o′ s newest : ℕ) (aa ga sa ca : List M
 abbrev pub reaches : List ℕ → ℕ → List Message → List Message → Rank.Query → Bool
 reaches w q ga ca query = reached (query .terms) (thresholds w q (length (query .terms))) (ga ++ ca)
 
--- the set has the terms of a slot's message
-abbrev pub HasTerms : List ℕ → List Bool → ℕ → Type 0
-HasTerms w set j = (i : ℕ) → i < length (slot w j .cells) → inSet set (termOf (slot w j .cells) i) ≡ true
+-- the terms of the messages that go and come
+abbrev pub movedTerms : List ℕ → ℕ → ℕ → ℕ → List ℕ
+movedTerms w o d newest = slotTerms (window w o d ++ map (slot w) (arriving newest))
 
--- the set has the terms of the messages that go and come
-pub record Covers (w : List ℕ) (o d newest : ℕ) (set : List Bool) : Type 0 where
-  pub gone : (j : ℕ) → In j (ring o d) → HasTerms w set j
-  pub come : newest < slots → HasTerms w set newest
+-- the set has these terms and no other
+abbrev pub Covers : List ℕ → ℕ → ℕ → ℕ → List Bool → Type 0
+Covers w o d newest set = SetOf (movedTerms w o d newest) set
 
 -- whether one of the query's terms is in the set
 pub record Shares (w : List ℕ) (q : ℕ) (set : List Bool) (r : Bool) : Type 0 where
-  pub some : r ≡ true → (query : Rank.Query) → Terms query → Says w q query → (i : ℕ) × (i < length (query .terms)) × (inSet set (termAt (query .terms) i) ≡ true)
-  pub none : r ≡ false → (query : Rank.Query) → Terms query → Says w q query → (i : ℕ) → i < length (query .terms) → inSet set (termAt (query .terms) i) ≡ false
+  pub is : (query : Rank.Query) → Terms query → Says w q query → r ≡ anyIn set (map (λ p. p .term) (query .terms))
 
 pub record Updated (w : List ℕ) (q o d o′ count newest : ℕ) (set : List Bool) (r : Bool) (w′ : List ℕ) : Type 0 where
   pub keeps : Keeps (listedIn q) (recordAt q + recordWords) w w′

@@ -9,11 +9,11 @@ ghost use Rattle.paper.specs.Impact.{top};
 ghost use Rattle.paper.specs.Write.{side-by-side};
 ghost use Rattle.paper.specs.Layout.{stateLength, slots, recordAt};
 ghost use Rattle.memory.specs.Words.{words};
-ghost use Rattle.window.specs.Terms.{termLimit};
+ghost use Rattle.window.specs.Terms.{termLimit, Added};
 ghost use Rattle.rank.specs.Listing.{linesOf};
 ghost use Rattle.rank.specs.Weights.{weightLimit};
 ghost use Rattle.query.specs.Record.{Says};
-ghost use Rattle.query.specs.Post.{Clamped, InRange, LoadedQuery, LoadedThresholds, LoadedList, Lifted, secure, StoredKept, Finished, Refilled, SettledFrom, Arriving, Reached, Arrived, NewestLow, Stands, KeptList, Covers, Shares, Updated, Packed, PutQuery, Registered, Cleared};
+ghost use Rattle.query.specs.Post.{Clamped, InRange, LoadedQuery, LoadedThresholds, LoadedList, Lifted, secure, StoredKept, Finished, Refilled, SettledFrom, Arriving, Reached, Arrived, NewestLow, Stands, KeptList, movedTerms, Shares, Updated, Packed, PutQuery, Registered, Cleared};
 use candidates::Query;
 use paper::layout;
 use rank::Ranked;
@@ -304,7 +304,7 @@ fn keep_list(state: &mut [u8], q: usize, gone: usize, departed: usize, flags: [u
 // The terms of the messages that go and come are put into the set.
 pub fn add_moved(state: &[u8], gone: usize, departed: usize, newest: usize, set: &mut [bool])
     requires { ⌜ (length (now state) ≡ stateLength) × (gone < slots) × (length (now set) ≡ termLimit) ⌝ }
-    ensures { λ _. ⌜ (length (now (set .exit)) ≡ termLimit) × Covers (words (now (state .entry))) gone departed newest (now (set .exit)) ⌝ }
+    ensures { λ _. ⌜ (length (now (set .exit)) ≡ termLimit) × Added (movedTerms (words (now (state .entry))) gone departed newest) (now (set .entry)) (now (set .exit)) ⌝ }
 {
     let mut j = gone;
     let mut left = departed;

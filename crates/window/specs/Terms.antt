@@ -1,11 +1,13 @@
--- A set of terms, one place for each, beside a message's cells. Assumes nothing.
+-- A set of terms, one place for each, beside messages' cells. Assumes nothing.
 use Prim.Native.Nat.{ℕ, _^_, _<_}
 use mathlib.Core.Path.{_≡_}
-use mathlib.Core.Bool.{Bool, true, false}
-use mathlib.Core.List.{List}
+use mathlib.Core.Bool.{Bool, false, _||_}
+use mathlib.Core.List.{List, [], _∷_, _++_, map}
 use lib.ListN.{length, getD}
 use Rattle.paper.specs.Frame.{termWidth}
+use lib.Dec.{eqb}
 use Rattle.impact.specs.Cell.{cellTerm}
+use Rattle.window.specs.Slot.{Slot}
 
 -- how many terms there are
 abbrev pub termLimit : ℕ
@@ -19,12 +21,33 @@ inSet set t = getD set t false
 abbrev pub termOf : List ℕ → ℕ → ℕ
 termOf cs i = cellTerm (getD cs i 0)
 
--- whether one of the cells has a term in the set
-pub record HasAny (cs : List ℕ) (set : List Bool) (r : Bool) : Type 0 where
-  pub some : r ≡ true → (i : ℕ) × (i < length cs) × (inSet set (termOf cs i) ≡ true)
-  pub none : r ≡ false → (i : ℕ) → i < length cs → (termOf cs i < termLimit) × (inSet set (termOf cs i) ≡ false)
+-- whether a term is one of these
+unfoldable pub hasTerm : ℕ → List ℕ → Bool
+hasTerm t [] = false
+hasTerm t (u ∷ us) = eqb u t || hasTerm t us
 
--- the cells' terms are put into the set; what was in it stays
-pub record Added (cs : List ℕ) (set set′ : List Bool) : Type 0 where
-  pub has : (i : ℕ) → i < length cs → inSet set′ (termOf cs i) ≡ true
-  pub keeps : (t : ℕ) → inSet set t ≡ true → inSet set′ t ≡ true
+-- whether one of these terms is in the set
+unfoldable pub anyIn : List Bool → List ℕ → Bool
+anyIn set [] = false
+anyIn set (u ∷ us) = inSet set u || anyIn set us
+
+-- the terms of a message's cells, and of the messages in slots
+abbrev pub cellTerms : List ℕ → List ℕ
+cellTerms cs = map cellTerm cs
+
+abbrev pub slotTerms : List Slot → List ℕ
+slotTerms [] = []
+slotTerms (x ∷ xs) = cellTerms (x .cells) ++ slotTerms xs
+
+-- the set has these terms and no other
+pub record SetOf (ts : List ℕ) (set : List Bool) : Type 0 where
+  pub is : (t : ℕ) → t < termLimit → inSet set t ≡ hasTerm t ts
+
+-- these terms and no other are put into the set
+pub record Added (ts : List ℕ) (set set′ : List Bool) : Type 0 where
+  pub is : (t : ℕ) → t < termLimit → inSet set′ t ≡ (inSet set t || hasTerm t ts)
+
+-- whether one of the cells has a term in the set; a cell's term has a place in it whatever memory says
+pub record HasAny (cs : List ℕ) (set : List Bool) (r : Bool) : Type 0 where
+  pub is : r ≡ anyIn set (cellTerms cs)
+  pub small : r ≡ false → (i : ℕ) → i < length cs → termOf cs i < termLimit

@@ -10,7 +10,7 @@ ghost use Rattle.memory.specs.Words.{words};
 ghost use Rattle.memory.specs.Keeps.{Stored};
 ghost use Rattle.impact.specs.Cell.{cellsOf, Looked};
 ghost use Rattle.window.specs.Slot.{slot, sizeAt, window, next, holdsSerial};
-ghost use Rattle.window.specs.Terms.{termLimit, HasAny, Added};
+ghost use Rattle.window.specs.Terms.{termLimit, HasAny, Added, cellTerms};
 ghost use Rattle.window.specs.Cursor.{Loaded, PutCursor, Advanced, Roomy, Written};
 use impact::Impact;
 use paper::MOST_PAIRS;
@@ -96,7 +96,7 @@ pub fn has_any(state: &[u8], j: usize, set: &[bool]) -> bool
 // The terms of the message in slot j are put into the set.
 pub fn add_terms(state: &[u8], j: usize, set: &mut [bool])
     requires { ⌜ (length (now state) ≡ stateLength) × (j < slots) × (length (now set) ≡ termLimit) ⌝ }
-    ensures { λ _. ⌜ (length (now (set .exit)) ≡ termLimit) × Added (slot (words (now (state .entry))) j .cells) (now (set .entry)) (now (set .exit)) ⌝ }
+    ensures { λ _. ⌜ (length (now (set .exit)) ≡ termLimit) × Added (cellTerms (slot (words (now (state .entry))) j .cells)) (now (set .entry)) (now (set .exit)) ⌝ }
 {
     let at = layout::RING + layout::SLOT * j + layout::CELLS;
     let size = size_in(state, j);

@@ -8,6 +8,7 @@ use lib.ListN.{length}
 use Rattle.paper.specs.Frame.{numbers}
 use Rattle.memory.specs.Words.{words}
 use Rattle.window.specs.Terms.{termLimit}
+use Rattle.window.proofs.TermLaws.{set-of}
 use Rattle.query.specs.Post.{Covers}
 use Rattle.engine.specs.Inner.{Passed}
 use Rattle.engine.proofs.MarkLaws.{marks-fit}
@@ -27,7 +28,7 @@ abbrev μ-loop : tie.MeasureT-loop
 μ-loop state₀ gone departed first count newest moved marks₀ q₀ state marks q = numbers - q
 
 loop-holds : tie.Need-loop-holds Inv-loop μ-loop
-loop-holds c = let m = c .before .add-moved .ensures in (omega arith, refl, m .0, m .1, passed-none _)
+loop-holds c = let m = c .before .add-moved .ensures in (omega arith, refl, m .0, set-of (m .1), passed-none _)
 
 add-marks : tie.Need-add-marks Inv-loop μ-loop
 add-marks c =

@@ -1,9 +1,10 @@
 -- `shares` meets its contract. Assumes nothing.
 use Prim.Native.Nat.{ℕ, _+_, _-_, _/_, _%_, _<_, _≤_}
 use native.Mathlib.Omega.{arith}
-use mathlib.Core.Path.{_≡_, subst}
-use mathlib.Core.Bool.{false, true≢false, false≢true}
-use lib.ListN.{length, getD}
+use mathlib.Core.Path.{_≡_, sym, subst}
+use mathlib.Core.Bool.{false}
+use mathlib.Core.List.{map}
+use lib.ListN.{length, getD, length-map}
 use borrow.Author.Count.{below-more}
 use borrow.Author.Needs.{needs}
 use Rattle.paper.specs.Rank as Rank
@@ -12,8 +13,9 @@ use Rattle.paper.specs.Sound.{Terms}
 use Rattle.memory.specs.Words.{words}
 use Rattle.window.specs.Terms.{inSet}
 use Rattle.query.specs.Record.{Says}
+use Rattle.window.proofs.TermLaws.{any-some, any-none}
 use Rattle.query.specs.Post.{Clamped}
-use Rattle.query.proofs.QueryLaws.{size-said, term-said}
+use Rattle.query.proofs.QueryLaws.{term-at, size-said, term-said}
 use Rattle.query.proofs.shares.Statement.{statement}
 use Rattle.query.proofs.shares.Tie as tie
 
@@ -33,11 +35,12 @@ returns : tie.Need-returns Inv-loop μ-loop
 returns c =
     let l = c .before .before .before .before in
     record {
-      some = λ _ query terms says.
+      is = λ query terms says.
           let n = size-is (l .before) query terms says in
           let below : l .loop .i < length (query .terms) = omega arith in
-          (l .loop .i, below, rw (← term-said terms says (l .loop .i) below, ← c .before .before .get2 .ensures) (c .if1 .taken));
-      none = λ e. absurd (true≢false e);
+          let m = length-map (query .terms) (λ p. p .term) in
+          sym (any-some (l .before .before .before .before .before .args .set .now) (map (λ p. p .term) (query .terms)) (l .loop .i) (omega arith)
+          (rw (term-at (query .terms) (l .loop .i), ← term-said terms says (l .loop .i) below, ← c .before .before .get2 .ensures) (c .if1 .taken)));
     }
 
 loop-again : tie.Need-loop-again Inv-loop μ-loop
@@ -48,10 +51,11 @@ returns-2 : tie.Need-returns-2 Inv-loop μ-loop
 returns-2 c =
     let l = c .before in
     record {
-      some = λ e. absurd (false≢true e);
-      none = λ _ query terms says i h.
+      is = λ query terms says.
           let n = size-is (l .before) query terms says in
-          rw (← term-said terms says i h) (l .loop .inv .1 i (omega arith));
+          let m = length-map (query .terms) (λ p. p .term) in
+          sym (any-none (l .before .before .before .before .before .args .set .now) (map (λ p. p .term) (query .terms))
+          (λ i h. rw (term-at (query .terms) i, ← term-said terms says i (omega arith)) (l .loop .inv .1 i (omega arith))));
     }
 
 pub shares-spec : {M : Type 1} → statement M

@@ -2,15 +2,15 @@
 use Prim.Native.Nat.{ℕ, _-_, _<_, _≤_}
 use native.Mathlib.Omega.{arith}
 use mathlib.Core.Path.{_≡_, sym, ap}
-use mathlib.Core.Bool.{false, true≢false, false≢true}
-use lib.ListN.{length}
+use mathlib.Core.Bool.{false, true≢false}
+use lib.ListN.{length, length-map}
 use borrow.Author.Count.{below-more}
 use borrow.Author.Needs.{needs}
 use Rattle.impact.specs.Cell.{cellTerm}
 use Rattle.memory.specs.Words.{words}
 use Rattle.window.specs.Slot.{slot}
-use Rattle.window.specs.Terms.{termLimit, inSet, termOf}
-use Rattle.window.proofs.TermLaws.{size-most, slot-size, slot-cell}
+use Rattle.window.specs.Terms.{termLimit, inSet, termOf, cellTerms}
+use Rattle.window.proofs.TermLaws.{size-most, slot-size, slot-cell, term-of, any-some, any-none}
 use Rattle.window.proofs.has_any.Statement.{statement}
 use Rattle.window.proofs.has_any.Tie as tie
 
@@ -37,7 +37,13 @@ read-is c =
 returns : tie.Need-returns Inv-loop μ-loop
 returns c =
     let r = read-is (c .before .before) in
-    record { some = λ _. (c .before .before .before .before .loop .i, r .0, rw (r .1) (c .if1 .taken)); none = λ e. absurd (true≢false e) }
+    let l = c .before .before .before .before in
+    let a = l .before .before .before .before .args in
+    let cells = slot (words (a .state .now)) (a .j) .cells in
+    record {
+      is = sym (any-some (a .set .now) (cellTerms cells) (l .loop .i) (omega (arith, length-map cells cellTerm)) (rw (term-of cells (l .loop .i), r .1) (c .if1 .taken)));
+      small = λ e. absurd (true≢false e);
+    }
 
 loop-again : tie.Need-loop-again Inv-loop μ-loop
 loop-again c =
@@ -48,7 +54,13 @@ returns-2 : tie.Need-returns-2 Inv-loop μ-loop
 returns-2 c =
     let a = c .before .before .before .before .before .args in
     let s = slot-size (a .state .now) (a .j) (omega arith) (omega arith) in
-    record { some = λ e. absurd (false≢true e); none = λ _ i h. c .before .loop .inv .1 i (omega (arith, c .before .before .size-in .ensures)) }
+    let cells = slot (words (a .state .now)) (a .j) .cells in
+    let none : (i : ℕ) → i < length cells → (termOf cells i < termLimit) × (inSet (a .set .now) (termOf cells i) ≡ false) =
+    λ i h. c .before .loop .inv .1 i (omega (arith, c .before .before .size-in .ensures)) in
+    record {
+      is = sym (any-none (a .set .now) (cellTerms cells) (λ i h. rw (term-of cells i) (none i (omega (arith, length-map cells cellTerm)) .1)));
+      small = λ _ i h. none i h .0;
+    }
 
 pub has-any-spec : {M : Type 1} → statement M
 has-any-spec =
