@@ -31,7 +31,8 @@ pub put-same : {a b out out₁ : List ℕ} {at r : ℕ} → a ≡ b → Put a at
 put-same {out = out} {out₁ = out₁} {at = at} {r = r} e p = subst (λ (t : List ℕ). Put t at out r out₁) e p
 
 -- a copy of the whole text
-pub put-pasted : (text : List ℕ) (at : ℕ) (out out′ : List ℕ) (i : ℕ) → i ≡ length text → out′ ≡ paste out at text i → at + length text ≤ length out → Put text at out (at + i) out′
+pub put-pasted : (text : List ℕ) (at : ℕ) (out out′ : List ℕ) (i : ℕ) → i ≡ length text → out′ ≡ paste out at text i → at + length text ≤ length out
+    → Put text at out (at + i) out′
 put-pasted text at out out′ i e p h =
     rw (p, e)
     (record {
@@ -97,7 +98,8 @@ module _ (s : List ℕ) (q at : ℕ) (out : List ℕ) where
 
     pub shown-registered : {end : ℕ} {out′ : List ℕ} → r .number ≡ 0 → Put (listLine q (r .list .serials) (r .list .scores) (r .list .count)) at out end out′
         → Printed (Shown s q m) at out end out′
-    shown-registered accepted p = rw marked (record { text = listLine q (r .list .serials) (r .list .scores) (r .list .count); right = Shown.registered r post accepted; put = p })
+    shown-registered accepted p =
+        rw marked (record { text = listLine q (r .list .serials) (r .list .scores) (r .list .count); right = Shown.registered r post accepted; put = p })
 
 pub lists-none : (s : List ℕ) (marks at : ℕ) (out : List ℕ) → Printed (Lists s marks 0) at out at out
 lists-none s marks at out = record { text = []; right = Lists.none; put = put-nothing at out }

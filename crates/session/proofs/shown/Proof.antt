@@ -15,14 +15,17 @@ returns-2 : tie.Need-returns-2
 returns-2 c =
     let a = c .before .before .before .before .before .before .args in
     let read = c .before .before .list in
-    (shown-unregistered (a .state .now) (a .q) (a .at) (a .out .now) (a .marked) (not-false (a .marked) (c .before .before .before .if1 .left)) (read .result) (read .ensures) (c .if2 .taken), omega arith)
+    let marked = not-false (a .marked) (c .before .before .before .if1 .left) in
+    (shown-unregistered (a .state .now) (a .q) (a .at) (a .out .now) (a .marked) marked (read .result) (read .ensures) (c .if2 .taken), omega arith)
 
 returns-3 : tie.Need-returns-3
 returns-3 c =
     let a = c .before .before .before .before .before .before .before .before .before .before .before .args in
     let read = c .before .before .before .before .before .before .before .list in
     let p = c .before .before .list3 .ensures in
-    (shown-registered (a .state .now) (a .q) (a .at) (a .out .now) (a .marked) (not-false (a .marked) (c .before .before .before .before .before .before .before .before .if1 .left)) (read .result) (read .ensures) (c .before .before .before .before .before .if2 .left) (p .0), p .1)
+    let marked = not-false (a .marked) (c .before .before .before .before .before .before .before .before .if1 .left) in
+    let accepted = c .before .before .before .before .before .if2 .left in
+    (shown-registered (a .state .now) (a .q) (a .at) (a .out .now) (a .marked) marked (read .result) (read .ensures) accepted (p .0), p .1)
 
 pub shown-spec : {M : Type 1} → statement M
 shown-spec =

@@ -25,7 +25,8 @@ loop-again c =
     let inv = c .before .before .before .before .before .before .before .before .before .loop .inv in
     let serial = c .before .before .before .before .before .before .field .ensures in
     let score = c .before .before .field2 .ensures in
-    (omega arith, rw (add-one (c .before .before .before .before .before .before .before .before .before .loop .i)) (put-then (inv .1) (put-then (serial .0) (score .0))), omega (arith, inv .2, serial .1, score .1))
+    let more = add-one (c .before .before .before .before .before .before .before .before .before .loop .i) in
+    (omega arith, rw more (put-then (inv .1) (put-then (serial .0) (score .0))), omega (arith, inv .2, serial .1, score .1))
 
 same-length : tie.Need-same-length Inv-loop μ-loop
 same-length c = c .before .loop .inv .1 .long

@@ -12,7 +12,8 @@ use Rattle.session.proofs.text.marks.Tie as tie
 put-requires-2 : tie.Need-put-requires-2
 put-requires-2 c κs =
     let e = c .before .before .before .before .before .before .before .hex .ensures in
-    let m = fewest-most 16 8 (c .before .before .before .before .before .before .before .before .before .before .args .marked) (c .before .before .before .before .before .before .before .hex .result) 8 (omega arith) (e .1 .0) (omega arith) (omega arith) in
+    let n = c .before .before .before .before .before .before .before .before .before .before .args .marked in
+    let m = fewest-most 16 8 n (c .before .before .before .before .before .before .before .hex .result) 8 (omega arith) (e .1 .0) (omega arith) (omega arith) in
     omega (arith, e .0 .1, m)
 
 returns : tie.Need-returns

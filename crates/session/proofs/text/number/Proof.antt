@@ -9,7 +9,8 @@ use Rattle.session.proofs.text.number.Tie as tie
 put-requires : tie.Need-put-requires
 put-requires c κs =
     let e = c .before .before .decimal .ensures in
-    let m = fewest-most 10 1 (c .before .before .before .before .before .args .n) (c .before .before .decimal .result) 20 (omega arith) (e .1 .0) (omega arith) (omega arith) in
+    let n = c .before .before .before .before .before .args .n in
+    let m = fewest-most 10 1 n (c .before .before .decimal .result) 20 (omega arith) (e .1 .0) (omega arith) (omega arith) in
     omega (arith, e .0 .1, m)
 
 returns : tie.Need-returns

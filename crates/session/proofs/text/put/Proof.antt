@@ -36,7 +36,9 @@ loop-again c =
     )
 
 same-length : tie.Need-same-length Inv-loop μ-loop
-same-length c = let a = c .before .before .args in rw (c .before .loop .inv .1) (length-paste (a .out .now) (a .at) (a .text .now) (c .before .loop .i) (omega arith) (omega arith))
+same-length c =
+    let a = c .before .before .args in
+    rw (c .before .loop .inv .1) (length-paste (a .out .now) (a .at) (a .text .now) (c .before .loop .i) (omega arith) (omega arith))
 
 returns : tie.Need-returns Inv-loop μ-loop
 returns c = put-pasted _ _ _ _ _ (omega arith) (c .before .loop .inv .1) (omega arith)
