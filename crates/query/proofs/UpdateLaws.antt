@@ -19,7 +19,7 @@ use Rattle.paper.specs.Threshold.{reached, Settled, termAt}
 use Rattle.paper.specs.Layout.{slots, recordAt, recordWords, listedIn, thresholdsIn}
 use Rattle.paper.proofs.Tests as Tests
 use Rattle.paper.proofs.LogLaws.{messages-append, messages-split}
-use Rattle.paper.proofs.SortLaws.{in-append, in-left, in-stay, in-split, select-change}
+use Rattle.paper.proofs.SortLaws.{in-append, in-left, in-right, in-stay, in-split, select-change}
 use Rattle.paper.proofs.ThresholdLaws.{skip}
 use Rattle.memory.proofs.KeepsLaws.{keeps-refl}
 use Rattle.window.specs.Slot.{slot, stored, ring, window, Slot}
