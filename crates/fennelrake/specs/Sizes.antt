@@ -4,14 +4,14 @@ use mathlib.Core.Path.{_≡_}
 use mathlib.Core.List.{List}
 use lib.ListN.{length}
 use Rattle.wire.specs.Bits.{Bytes}
-use Rattle.paper.specs.Frame.{Frame, shape, messageHead, countWidth, mostPairs, bitsOf, bytesFor}
+use Rattle.paper.specs.Frame.{Frame, shape, messageRow, widths, countWidth, mostPairs, bitsOf, bytesFor}
 use Rattle.paper.specs.Frame.Shape.{accepted}
 use Rattle.paper.specs.Log.{Log, stateLength, postingLength, posted}
 use Rattle.fennelrake.specs.Entry.{frameAnswer, listAnswer}
 
 -- room for every frame that is accepted: a message of sixteen pairs is the longest
 abbrev pub frameRoom : ℕ
-frameRoom = bytesFor (bitsOf messageHead countWidth mostPairs)
+frameRoom = bytesFor (bitsOf (widths messageRow) countWidth mostPairs)
 
 -- room for every reading of postings: 256 messages in force that all have the term
 abbrev pub postingsRoom : ℕ
