@@ -11,11 +11,11 @@ use lib.Seq.{take-all}
 use lib.Dec.{eqb, leb}
 use borrow.Author.Tests.{leb-true, leb-false, le-leb, lt-leb}
 use Rattle.wire.specs.Field.{total}
-use Rattle.paper.specs.Frame.{Pair, Shape}
+use Rattle.paper.specs.Frame.{Pair, Fields, Shape, rowOf}
 use Rattle.paper.specs.Frame.Shape.{refused, accepted}
-use Rattle.paper.specs.Write.{Fields, side-by-side, fromFields, bytesOf}
-use Rattle.paper.proofs.FrameLaws.{encode-most}
-use Rattle.paper.proofs.WriteLaws.{fields-valid}
+use Rattle.paper.specs.Write.{side-by-side, headWithin, fromKind, fromFields, bytesOf}
+use Rattle.paper.proofs.FrameLaws.{by-kind, encode-most}
+use Rattle.paper.proofs.WriteLaws.{unknown-kind, fields-valid}
 use Rattle.memory.proofs.ArrayLaws.{copy-more}
 use Rattle.frame.specs.declared.Written.{Written}
 use Rattle.frame.specs.Write.{fields, WritePost}
@@ -83,20 +83,33 @@ abbrev pub withTerms : Fields → List ℕ → Fields
 withTerms x ts = fields (x .kind) (x .time) (x .serial) (x .number) (x .k) (x .pairs) ts (x .amounts)
 
 module _ (x : Fields) where
-  few-cut : x .pairs ≤ 16 → fromFields (withTerms x (take 16 (x .terms))) ≡ fromFields x
-  unfolding fromFields
-  few-cut h = rw (long-cut (x .pairs) 16 (x .terms) h, beside-cut (x .pairs) 16 (x .terms) (x .amounts) h)
+  -- no kind needs more than sixteen terms, if those with pairs don't
+  abbrev Cut : ℕ → Type 0
+  Cut k = fromKind k (withTerms x (take 16 (x .terms))) ≡ fromKind k x
 
-  many-cut : 16 < x .pairs → fromFields (withTerms x (take 16 (x .terms))) ≡ fromFields x
-  unfolding fromFields
-  many-cut h = rw (lt-leb (x .pairs) 16 h, lt-leb (x .pairs) 8 (omega arith)) (simp and-false)
+  by-pairs : Cut 1 → Cut 3 → (k : ℕ) → Cut k
+  unfolding fromKind rowOf headWithin
+  by-pairs message register =
+      by-kind Cut message (rw (long-cut 0 16 (x .terms) (omega arith), beside-cut 0 16 (x .terms) (x .amounts) (omega arith)))
+      register (rw (long-cut 0 16 (x .terms) (omega arith), beside-cut 0 16 (x .terms) (x .amounts) (omega arith)))
+      (λ k none. unknown-kind (withTerms x (take 16 (x .terms))) k none ∙ sym (unknown-kind x k none))
+
+  few-cut : x .pairs ≤ 16 → (k : ℕ) → Cut k
+  unfolding fromKind rowOf headWithin
+  few-cut h =
+      by-pairs (rw (long-cut (x .pairs) 16 (x .terms) h, beside-cut (x .pairs) 16 (x .terms) (x .amounts) h))
+      (rw (long-cut (x .pairs) 16 (x .terms) h, beside-cut (x .pairs) 16 (x .terms) (x .amounts) h))
+
+  many-cut : 16 < x .pairs → (k : ℕ) → Cut k
+  unfolding fromKind rowOf headWithin
+  many-cut h = by-pairs (rw (lt-leb (x .pairs) 16 h) (simp and-false)) (rw (lt-leb (x .pairs) 8 (omega arith)) (simp and-false))
 
   fields-cut : fromFields (withTerms x (take 16 (x .terms))) ≡ fromFields x
   fields-cut = go (leb (x .pairs) 16) refl
     where
       go : (t : Bool) → leb (x .pairs) 16 ≡ t → fromFields (withTerms x (take 16 (x .terms))) ≡ fromFields x
-      go true e = few-cut (leb-true (x .pairs) 16 e)
-      go false e = many-cut (leb-false (x .pairs) 16 e)
+      go true e = few-cut (leb-true (x .pairs) 16 e) (x .kind)
+      go false e = many-cut (leb-false (x .pairs) 16 e) (x .kind)
 
 -- as many terms as there are, at most sixteen
 take-cut : (count : ℕ) (ts : List ℕ) → count ≤ 16 → (count < 16 → count ≡ length ts) → take count ts ≡ take 16 ts

@@ -10,7 +10,6 @@ use lib.Seq.{take-at, drop-at, take-append-le, drop-append-le, length-take-le, d
 use Rattle.wire.specs.Bits.{bits, num, unpack, pack, Bytes}
 use Rattle.wire.specs.Field.{placed, total, spell}
 use Rattle.wire.proofs.BitLaws.{length-bits, length-unpack, num-of, pack-unpack}
-use Rattle.wire.proofs.LayoutLaws.{spell-append}
 use Rattle.frame.specs.Write.{laid}
 
 pub laid-none : (s : List ℕ) (at : ℕ) → unpack s ≡ laid s at []
@@ -47,14 +46,6 @@ spell-length [] vs e = refl
 spell-length (w ∷ ws) [] e = absurd (not-suc-le-zero (le-of-eq e))
 spell-length (w ∷ ws) (v ∷ vs) e =
     length-append (bits w v) (spell ws vs) ∙ ap₂ (λ (x y : ℕ). x + y) (length-bits w v) (spell-length ws vs (suc-inj e))
-
--- one more field of a layout that starts at bit 0
-pub laid-more : (s t u : List ℕ) (ws vs : List ℕ) (w v : ℕ) → length ws ≡ length vs
-    → unpack t ≡ laid s 0 (spell ws vs) → unpack u ≡ placed t (total ws) w v → unpack u ≡ laid s 0 (spell (ws ++ (w ∷ [])) (vs ++ (v ∷ [])))
-unfolding spell
-laid-more s t u ws vs w v l et eu =
-    laid-then s t u 0 (total ws) (spell ws vs) (bits w v) (omega arith) (omega (arith, spell-length ws vs l)) et (eu ∙ laid-field t (total ws) w v)
-    ∙ ap (laid s 0) (ap (λ (x : List Bool). spell ws vs ++ x) (sym (append-nil (bits w v))) ∙ sym (spell-append ws (w ∷ []) vs (v ∷ []) l))
 
 -- ---- the bytes
 

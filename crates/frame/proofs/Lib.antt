@@ -1,5 +1,6 @@
 pub mod PairLaws
 pub mod ReadLaws
 pub mod LaidLaws
+pub mod HeadLaws
 pub mod WriteLaws
 pub mod RoundTrip

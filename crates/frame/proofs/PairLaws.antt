@@ -5,8 +5,8 @@ use native.Mathlib.Numerals.{add-one}
 use native.Mathlib.Omega.{arith}
 use mathlib.Core.Path.{_≡_, refl, sym, ap, _∙_}
 use mathlib.Core.Bool.{Bool, true, false, cond, _&&_}
-use mathlib.Core.List.{List, [], _∷_, _++_, map}
-use lib.ListN.{length, drop, getD, set}
+use mathlib.Core.List.{List, [], _∷_, _++_, map, map-append}
+use lib.ListN.{length, drop, getD, set, length-map}
 use lib.Seq.{drop-cons}
 use lib.Dec.{eqb, leb, ltb, eqb·suc-zero}
 use Rattle.wire.specs.Field.{field}
@@ -59,13 +59,13 @@ unfolding positive
 positive-all [] = refl
 positive-all (p ∷ ps) = ap (λ (t : Bool). ltb 0 (p .amount) && t) (positive-all ps)
 
-abbrev pub fitting : ℕ → Pair → Bool
-fitting w p = soundPair (2 ^ w) (p .term) (p .amount)
+abbrev pub inLimits : ℕ → Pair → Bool
+inLimits w p = soundPair (2 ^ w) (p .term) (p .amount)
 
-pub within-all : (w : ℕ) (ps : List Pair) → all (fitting w) ps ≡ allWithin w ps
+pub within-all : (w : ℕ) (ps : List Pair) → all (inLimits w) ps ≡ allWithin w ps
 unfolding allWithin
 within-all w [] = refl
-within-all w (p ∷ ps) = ap (λ (t : Bool). fitting w p && t) (within-all w ps)
+within-all w (p ∷ ps) = ap (λ (t : Bool). inLimits w p && t) (within-all w ps)
 
 -- ---- pairs read one after the other
 
@@ -92,12 +92,11 @@ pairs-more s at w (suc i) =
 
 -- ---- pairs in an array
 
--- one more pair is one more place
-array-more : (n : ℕ) (f : Pair → ℕ) (ps : List Pair) (p : Pair) → length ps < n
-    → padded n (map f (ps ++ (p ∷ []))) ≡ set (padded n (map f ps)) (length ps) (f p)
-array-more zero f ps p h = absurd (not-suc-le-zero h)
-array-more (suc n) f [] p h = refl
-array-more (suc n) f (q ∷ ps) p h = ap (λ (l : List ℕ). f q ∷ l) (array-more n f ps p (le-of-suc-le-suc h))
+-- one more number is one more place
+pub padded-more : (n : ℕ) (xs : List ℕ) (x : ℕ) → length xs < n → padded n (xs ++ (x ∷ [])) ≡ set (padded n xs) (length xs) x
+padded-more zero xs x h = absurd (not-suc-le-zero h)
+padded-more (suc n) [] x h = refl
+padded-more (suc n) (y ∷ xs) x h = ap (λ (l : List ℕ). y ∷ l) (padded-more n xs x (le-of-suc-le-suc h))
 
 -- ---- a turn of a loop over pairs
 
@@ -110,9 +109,11 @@ module _ (s : List ℕ) (w i next : ℕ) where
   pub array-turn : (f : Pair → ℕ) (at : ℕ) (a : List ℕ) (x : ℕ) → i < mostPairs → next ≡ at + i * (termWidth + w)
       → a ≡ padded mostPairs (map f (pairsAt s at w i)) → x ≡ f (pairAt s next w) → set a i x ≡ padded mostPairs (map f (pairsAt s at w (i + 1)))
   array-turn f at a x h n e v =
-      rw (e, v, n, add-one i, pairs-more s at w i)
-      (sym (array-more mostPairs f (pairsAt s at w i) (pairAt s (at + i * (termWidth + w)) w) (rw (length-pairs s at w i) h)
-      ∙ ap (λ (k : ℕ). set (padded mostPairs (map f (pairsAt s at w i))) k (f (pairAt s (at + i * (termWidth + w)) w))) (length-pairs s at w i)))
+      let before : List ℕ = map f (pairsAt s at w i) in
+      let found : ℕ = f (pairAt s (at + i * (termWidth + w)) w) in
+      let k : length before ≡ i = length-map (pairsAt s at w i) f ∙ length-pairs s at w i in
+      rw (e, v, n, add-one i, pairs-more s at w i, map-append f (pairsAt s at w i) (pairAt s (at + i * (termWidth + w)) w ∷ []))
+      (sym (padded-more mostPairs before found (omega arith) ∙ ap (λ (j : ℕ). set (padded mostPairs before) j found) k))
 
   -- the number of what is left
   pub number-turn : (m number least term amount number′ all-number : ℕ) → i < m
@@ -130,13 +131,13 @@ beside-none n ts us h = rw h
 
 -- the number of what is left
 pub beside-turn : (ts us : List ℕ) (w n i number least number′ all-number : ℕ) → i < n → n ≤ length ts → n ≤ length us
-    → judgedFrom (fitting w) number least (side-by-side (n - i) (drop i ts) (drop i us)) ≡ all-number
+    → judgedFrom (inLimits w) number least (side-by-side (n - i) (drop i ts) (drop i us)) ≡ all-number
     → number′ ≡ judgeNext number (soundPair (2 ^ w) (getD ts i 0) (getD us i 0)) least (getD ts i 0)
-    → judgedFrom (fitting w) number′ (getD ts i 0 + 1) (side-by-side (n - (i + 1)) (drop (i + 1) ts) (drop (i + 1) us)) ≡ all-number
+    → judgedFrom (inLimits w) number′ (getD ts i 0 + 1) (side-by-side (n - (i + 1)) (drop (i + 1) ts) (drop (i + 1) us)) ≡ all-number
 unfolding side-by-side
 beside-turn ts us w n i number least number′ all-number h ht hu e en =
     let d : n - i ≡ suc (n - (i + 1)) = omega arith in
     let q : side-by-side (n - i) (drop i ts) (drop i us)
     ≡ record { term = getD ts i 0; amount = getD us i 0 } ∷ side-by-side (n - (i + 1)) (drop (i + 1) ts) (drop (i + 1) us) =
     rw (d, drop-cons ts i 0 (omega arith), drop-cons us i 0 (omega arith), add-one i) in
-    rw (en, add-one (getD ts i 0)) (ap (judgedFrom (fitting w) number least) (sym q) ∙ e)
+    rw (en, add-one (getD ts i 0)) (ap (judgedFrom (inLimits w) number least) (sym q) ∙ e)

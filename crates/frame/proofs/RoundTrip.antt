@@ -5,20 +5,22 @@ use native.Mathlib.Nat.{not-suc-le-zero, le-of-suc-le-suc}
 use native.Mathlib.Omega.{arith}
 use mathlib.Core.Path.{_≡_, refl, sym, ap, _∙_}
 use mathlib.Core.List.{List, [], _∷_, _++_, map}
-use lib.ListN.{length, take, drop, length-map}
+use lib.ListN.{length, take, drop}
 use lib.Seq.{take-at}
 use borrow.Author.Tests.{le-leb}
 use Rattle.wire.specs.Bits.{Bytes}
-use Rattle.paper.specs.Frame.{Pair, Frame, Shape, Valid, shape, encode, mostPairs}
+use Rattle.paper.specs.Frame.{Pair, Frame, Fields, Shape, Valid, shape, encode, mostPairs}
 use Rattle.paper.specs.Frame.Frame.{message, tick, register, unregister}
 use Rattle.paper.specs.Frame.Shape.{refused, accepted}
-use Rattle.paper.specs.Write.{Fields, side-by-side, fromFields, fieldsFor, writeNumber, bytesOf}
+use Rattle.paper.specs.Write.{side-by-side, fromFields, fieldsWith, pairsIn, writeNumber, bytesOf}
 use Rattle.paper.proofs.FrameLaws.{shape-valid, encode-shape}
-use Rattle.paper.proofs.WriteLaws.{fields-number, fields-read, fields-of}
+use Rattle.paper.proofs.WriteLaws.{Beside, fields-number, fields-read, fields-with}
+use Rattle.frame.specs.declared.Kind.{Kind}
+use Rattle.frame.specs.declared.Kind.the-variants.{Message, Tick, Register, Unregister, Refused}
 use Rattle.frame.specs.declared.Parsed.{Parsed}
 use Rattle.frame.specs.declared.Written.{Written}
-use Rattle.frame.specs.Read.{ReadPost, padded, termArray, amountArray}
-use Rattle.frame.specs.Write.{WritePost, fields, fieldsIn}
+use Rattle.frame.specs.Read.{ReadPost, answerOf, pairsRead, padded, termArray, amountArray}
+use Rattle.frame.specs.Write.{WritePost, fieldsBy, fieldsIn}
 
 -- ---- reading what was written
 
@@ -34,7 +36,7 @@ read-written x s t w r post z got = go (fromFields x) refl (sym (post .number) �
         let is : take (w .length) t ≡ encode f = rw b (take-at (encode f) (drop (length (encode f)) s) (w .length) (sym l)) in
         rw (is, fields-read x f e) at got
 
--- ---- writing what was read
+-- ---- the pairs in their arrays
 
 length-padded : (n : ℕ) (xs : List ℕ) → length (padded n xs) ≡ n
 length-padded zero xs = refl
@@ -48,27 +50,72 @@ beside-padded n [] h = refl
 beside-padded zero (p ∷ ps) h = absurd (not-suc-le-zero h)
 beside-padded (suc n) (p ∷ ps) h = ap (λ (l : List Pair). p ∷ l) (beside-padded n ps (le-of-suc-le-suc h))
 
-beside-all : (ps : List Pair) → side-by-side (length ps) (map (λ p. p .term) ps) (map (λ p. p .amount) ps) ≡ ps
-unfolding side-by-side
-beside-all [] = refl
-beside-all (p ∷ ps) = ap (λ (l : List Pair). p ∷ l) (beside-all ps)
+-- the arrays of pairs hold them
+in-arrays : (ps : List Pair) → length ps ≤ mostPairs → Beside (termArray ps) (amountArray ps) ps
+in-arrays ps h = record {
+  terms = omega (arith, length-padded mostPairs (map (λ p. p .term) ps));
+  amounts = omega (arith, length-padded mostPairs (map (λ p. p .amount) ps));
+  are = beside-padded mostPairs ps h;
+}
 
--- places past the pairs make no difference
-array-fields : (kind t s n k : ℕ) (ps : List Pair) → length ps ≤ mostPairs
-    → fromFields (fields kind t s n k (length ps) (termArray ps) (amountArray ps)) ≡ fromFields (fieldsFor kind t s n k ps)
-unfolding fromFields
-array-fields kind t s n k ps h =
-    let ts : List ℕ = termArray ps in
-    let us : List ℕ = amountArray ps in
-    rw (le-leb (length ps) (length ts) (omega (arith, length-padded mostPairs (map (λ p. p .term) ps))), le-leb (length ps) (length us) (omega (arith, length-padded mostPairs (map (λ p. p .amount) ps))), le-leb (length ps) (length (map (λ p. p .term) ps)) (omega (arith, length-map ps (λ p. p .term))), le-leb (length ps) (length (map (λ p. p .amount) ps)) (omega (arith, length-map ps (λ p. p .amount))), beside-padded mostPairs ps h, beside-all ps)
+-- ---- an answer tells its frame
+
+-- what an answer and its arrays say
+abbrev pub told : Kind → List ℕ → List ℕ → Shape
+told (Message t s m) ts us = accepted (message t s (side-by-side m ts us))
+told (Tick t) ts us = accepted (tick t)
+told (Register t n k m) ts us = accepted (register t n k (side-by-side m ts us))
+told (Unregister t n) ts us = accepted (unregister t n)
+told (Refused r) ts us = refused r
+
+-- no frame has more pairs than the arrays have places
+pub pairs-most : (f : Frame) → Valid f → length (pairsIn f) ≤ mostPairs
+pairs-most (message t s ps) v = v .pairs .at-most
+pairs-most (tick t) v = omega arith
+pairs-most (register t n k ps) v = let h = v .terms .at-most in omega arith
+pairs-most (unregister t n) v = omega arith
+
+told-frame : (f : Frame) → length (pairsIn f) ≤ mostPairs → told (answerOf (accepted f)) (termArray (pairsIn f)) (amountArray (pairsIn f)) ≡ accepted f
+told-frame (message t s ps) h = ap (λ (l : List Pair). accepted (message t s l)) (beside-padded mostPairs ps h)
+told-frame (tick t) h = refl
+told-frame (register t n k ps) h = ap (λ (l : List Pair). accepted (register t n k l)) (beside-padded mostPairs ps h)
+told-frame (unregister t n) h = refl
+
+-- the answer to bytes says their shape
+pub read-told : (bytes : List ℕ) (r : Parsed) → ReadPost (shape bytes) r → told (r .what) (r .terms) (r .amounts) ≡ shape bytes
+read-told bytes r post = rw (post .what, post .terms, post .amounts) (go (shape bytes) refl)
+  where
+    go : (x : Shape) → shape bytes ≡ x → told (answerOf x) (termArray (pairsRead x)) (amountArray (pairsRead x)) ≡ x
+    go (refused n) e = refl
+    go (accepted f) e = told-frame f (pairs-most f (shape-valid bytes f e))
+
+-- how many pairs an answer says
+abbrev pub countIn : Kind → ℕ
+countIn (Message t s m) = m
+countIn (Tick t) = 0
+countIn (Register t n k m) = m
+countIn (Unregister t n) = 0
+countIn (Refused r) = 0
+
+pub count-answer : (x : Shape) → countIn (answerOf x) ≡ length (pairsRead x)
+count-answer (accepted (message t s ps)) = refl
+count-answer (accepted (tick t)) = refl
+count-answer (accepted (register t n k ps)) = refl
+count-answer (accepted (unregister t n)) = refl
+count-answer (refused r) = refl
+
+-- ---- writing what was read
 
 fields-in : (f : Frame) (r : Parsed) → Valid f → ReadPost (accepted f) r → fromFields (fieldsIn r) ≡ accepted f
-fields-in (message t s ps) r v got = rw (got .what, got .terms, got .amounts) (array-fields 1 t s 0 0 ps (v .pairs .at-most) ∙ fields-of (message t s ps) v)
-fields-in (tick t) r v got = rw (got .what, got .terms, got .amounts) (array-fields 2 t 0 0 0 [] (omega arith) ∙ fields-of (tick t) v)
-fields-in (register t n k ps) r v got =
-    let m : length ps ≤ mostPairs = omega (arith, v .terms .at-most) in
-    rw (got .what, got .terms, got .amounts) (array-fields 3 t 0 n k ps m ∙ fields-of (register t n k ps) v)
-fields-in (unregister t n) r v got = rw (got .what, got .terms, got .amounts) (array-fields 4 t 0 n 0 [] (omega arith) ∙ fields-of (unregister t n) v)
+fields-in f r v got =
+    rw (got .what, got .terms, got .amounts)
+    (ap fromFields (same f (termArray (pairsIn f)) (amountArray (pairsIn f))) ∙ fields-with f _ _ v (in-arrays (pairsIn f) (pairs-most f v)))
+  where
+    same : (g : Frame) (ts us : List ℕ) → fieldsBy (answerOf (accepted g)) ts us ≡ fieldsWith g ts us
+    same (message t s ps) ts us = refl
+    same (tick t) ts us = refl
+    same (register t n k ps) ts us = refl
+    same (unregister t n) ts us = refl
 
 -- writing what a reading answered gives the bytes that were read
 pub write-read : (s o t : List ℕ) (f : Frame) (r : Parsed) (w : Written) → Bytes s → shape s ≡ accepted f → ReadPost (shape s) r

@@ -5,45 +5,45 @@ use native.Mathlib.Numerals.{add-one}
 use native.Mathlib.Omega.{arith}
 use mathlib.Core.Path.{_≡_, refl, sym, ap, ap₂, _∙_}
 use mathlib.Core.Bool.{Bool, true, false, cond, _&&_}
-use mathlib.Core.List.{List, [], _∷_, _++_, append-assoc, append-nil}
-use lib.ListN.{length, drop, getD, length-append}
-use lib.Dec.{eqb, leb, ltb}
-use borrow.Author.Tests.{ltb-true, leb-true, le-leb, lt-leb, ne-eqb}
+use mathlib.Core.List.{List, [], _∷_, _++_, map, append-assoc, append-nil}
+use lib.ListN.{length, take, drop, getD, length-append}
+use lib.Dec.{eqb, leb}
+use borrow.Author.Tests.{leb-true, lt-ltb, le-ltb, le-leb, lt-leb, ne-eqb}
 use Rattle.wire.specs.Bits.{bits, unpack, pack, Bytes}
 use Rattle.wire.specs.Field.{placed, spell, total}
-use Rattle.wire.proofs.BitLaws.{length-bits, length-pack}
+use Rattle.wire.proofs.BitLaws.{length-bits}
 use Rattle.wire.proofs.LayoutLaws.{spell-append}
-use Rattle.paper.specs.Frame.{Pair, Frame, pairWidths, pairValues, termWidth, bitsOf, bytesFor, fillAfter, written, encode, rising}
+use Rattle.paper.specs.Frame.{Pair, Frame, Fields, Shape, kindWidth, rowOf, widths, frameOf, judged, writtenBy, pairWidths, pairValues, termWidth, bitsOf, bytesFor, fillAfter, written, encode, rising}
 use Rattle.paper.specs.Frame.Shape.{refused, accepted}
-use Rattle.paper.specs.Write.{side-by-side, within, allWithin, judged}
+use Rattle.paper.specs.Write.{side-by-side, allWithin, headWithin, valueOf, pairsTaken, pairsWithin, pairsOf, fromKind, fromFields}
 use Rattle.paper.proofs.Tests.{and-true}
+use Rattle.frame.specs.declared.Row.{Row}
 use Rattle.frame.specs.declared.Written.{Written}
-use Rattle.frame.specs.Read.{pairsNumber}
-use Rattle.frame.specs.Write.{WritePost, PutPost, enoughPairs, pairsVerdict, pairBits, laid}
-use Rattle.paper.proofs.WriteLaws.{length-side}
+use Rattle.frame.specs.Read.{RowPost, pairsNumber}
+use Rattle.frame.specs.Write.{WritePost, ValuesPost, PutPost, fitting, pairsVerdict, pairBits, laid}
+use Rattle.paper.proofs.FrameLaws.{encode-length}
+use Rattle.paper.proofs.WriteLaws.{length-side, Made, made}
 use Rattle.frame.proofs.LaidLaws.{laid-field, laid-then, spell-length, pack-over}
 
 -- ---- the pairs that are handed over
 
--- there are as many as are said
-pub enough-true : (most n a b : ℕ) → enoughPairs most n a b ≡ true → (0 < n) × (n ≤ most) × (n ≤ a) × (n ≤ b)
-enough-true most n a b e =
-    let h = and-true (within most n && leb n a) (leb n b) e in
-    let k = and-true (within most n) (leb n a) (h .0) in
-    let l = and-true (ltb 0 n) (leb n most) (k .0) in
-    (ltb-true 0 n (l .0), leb-true n most (l .1), leb-true n a (k .1), leb-true n b (h .1))
-
--- pairs that nothing refuses are as many as are said
-pub verdict-within : (w most n : ℕ) (ts us : List ℕ) → pairsVerdict w most n ts us ≡ 0 → (0 < n) × (n ≤ most) × (n ≤ length ts) × (n ≤ length us)
-unfolding pairsVerdict pairsNumber
-verdict-within w most n ts us e =
-    enough-true most n (length ts) (length us)
-    (and-true (enoughPairs most n (length ts) (length us)) (allWithin w (side-by-side n ts us))
-    (sound (enoughPairs most n (length ts) (length us) && allWithin w (side-by-side n ts us)) (rising (side-by-side n ts us)) e) .0)
+-- pairs that nothing refuses are within their ranges, and their terms rise
+pub none-refused : (sound : Bool) (ps : List Pair) → pairsNumber sound ps ≡ 0 → (sound ≡ true) × (rising ps ≡ true)
+unfolding pairsNumber
+none-refused sound ps e = go sound (rising ps) e
   where
-    sound : (a b : Bool) → _≡_ {A = ℕ} (cond a (cond b 0 6) 5) 0 → a ≡ true
-    sound true b e = refl
-    sound false b e = absurd (omega arith)
+    go : (a b : Bool) → _≡_ {A = ℕ} (cond a (cond b 0 6) 5) 0 → (a ≡ true) × (b ≡ true)
+    go true true e = (refl, refl)
+    go true false e = absurd (omega arith)
+    go false b e = absurd (omega arith)
+
+-- there are then as many as are said
+pub verdict-within : (w n : ℕ) (ts us : List ℕ) → pairsVerdict w n ts us ≡ 0 → (n ≤ length ts) × (n ≤ length us)
+unfolding pairsVerdict
+verdict-within w n ts us e =
+    let k = and-true (leb n (length ts) && leb n (length us)) (allWithin w (side-by-side n ts us)) (none-refused _ (side-by-side n ts us) e .0) in
+    let l = and-true (leb n (length ts)) (leb n (length us)) (k .0) in
+    (leb-true n (length ts) (l .0), leb-true n (length us) (l .1))
 
 -- ---- the bits of pairs
 
@@ -120,40 +120,28 @@ module _ (head values ts us : List ℕ) (w n : ℕ) (lh : length head ≡ length
   unfolding pairBits written
   frame-bytes = rw (length-side n ts us ht hu, spell-frame head values w (fillAfter (bitsOf head w n)) n (side-by-side n ts us) lh (length-side n ts us ht hu))
 
-  pub length-written : length (written head w values (side-by-side n ts us)) ≡ bytesFor (bitsOf head w n)
-  length-written = ap length (sym frame-bytes) ∙ length-pack (bytesFor (bitsOf head w n)) frame-bits
-
   -- a head of any fields, the pairs and the fill, written one after the other over s, are the frame and what stood past it
-  pub encode-puts : (f : Frame) (s t u v : List ℕ) → encode f ≡ written head w values (side-by-side n ts us) → bytesFor (bitsOf head w n) ≤ length s → length v ≡ length s → Bytes s → Bytes v
+  pub puts : (s t u v : List ℕ) → bytesFor (bitsOf head w n) ≤ length s → length v ≡ length s → Bytes s → Bytes v
       → unpack t ≡ laid s 0 (spell head values) → unpack u ≡ laid t (total head) (pairBits w n ts us)
       → unpack v ≡ placed u (bitsOf head w n) (fillAfter (bitsOf head w n)) 0
-      → PutPost f s v (bytesFor (bitsOf head w n))
+      → PutPost (written head w values (side-by-side n ts us)) s v (bytesFor (bitsOf head w n))
   unfolding laid
-  encode-puts f s t u v ef room lv hs hv et eu ev =
+  puts s t u v room lv hs hv et eu ev =
       let e₁ : unpack u ≡ laid s 0 (spell head values ++ pairBits w n ts us) =
       laid-then s t u 0 (total head) (spell head values) (pairBits w n ts us) (omega arith) (omega (arith, spell-length head values lh)) et eu in
       let z : ℕ = fillAfter (bitsOf head w n) in
       let e₂ : unpack v ≡ laid s 0 frame-bits =
-      laid-then s u v 0 (bitsOf head w n) (spell head values ++ pairBits w n ts us) (bits z 0) (omega arith) (omega (arith, before-fill)) e₁ (ev ∙ laid-field u (bitsOf head w n) z 0) in
+      laid-then s u v 0 (bitsOf head w n) (spell head values ++ pairBits w n ts us) (bits z 0) (omega arith) (omega (arith, before-fill)) e₁
+      (ev ∙ laid-field u (bitsOf head w n) z 0) in
       let l : 0 + length frame-bits ≡ 8 * bytesFor (bitsOf head w n) = omega (arith, length-frame-bits) in
       record {
-        size = sym (ap length ef ∙ length-written);
-        bytes =
+        size = sym (encode-length head w values (side-by-side n ts us) ∙ rw (length-side n ts us ht hu));
+        put =
             pack-over (bytesFor (bitsOf head w n)) s v frame-bits lv room length-frame-bits hs hv (e₂ ∙ ap (λ (k : ℕ). frame-bits ++ drop k (unpack s)) l)
-            ∙ ap (λ (x : List ℕ). x ++ drop (bytesFor (bitsOf head w n)) s) (frame-bytes ∙ sym ef);
+            ∙ ap (λ (x : List ℕ). x ++ drop (bytesFor (bitsOf head w n)) s) frame-bytes;
       }
 
 -- ---- what is answered
-
--- a frame is refused by its number, and accepted where that is 0
-judged-by : (ok : Bool) (ps : List Pair) (f : Frame) → judged ok ps f ≡ cond (eqb (pairsNumber ok ps) 0) (accepted f) (refused (pairsNumber ok ps))
-unfolding pairsNumber
-judged-by ok ps f = go ok (rising ps)
-  where
-    go : (a b : Bool) → cond a (cond b (accepted f) (refused 6)) (refused 5) ≡ cond (eqb (cond a (cond b 0 6) 5) 0) (accepted f) (refused (cond a (cond b 0 6) 5))
-    go false b = refl
-    go true false = refl
-    go true true = refl
 
 pub refused-post : (s : List ℕ) (n : ℕ) (r : Written) → r .number ≡ n → (n ≡ 0 → ⊥) → r .length ≡ 0 → WritePost (refused n) s s r
 refused-post s n r e h z = record {
@@ -162,53 +150,93 @@ refused-post s n r e h z = record {
   bytes = rw (e, ne-eqb n 0 h);
 }
 
-module _ (ok : Bool) (ps : List Pair) (f : Frame) (s : List ℕ) (r : Written) where
-  pub write-refused : r .number ≡ pairsNumber ok ps → (r .number ≡ 0 → ⊥) → r .length ≡ 0 → WritePost (judged ok ps f) s s r
-  write-refused e h z = rw (judged-by ok ps f, ← e, ne-eqb (r .number) 0 h) (refused-post s (r .number) r refl h z)
+-- 12
+pub short-post : (f : Frame) (s : List ℕ) (r : Written) → length s < length (encode f) → r .number ≡ 12 → r .length ≡ 0 → WritePost (accepted f) s s r
+short-post f s r h n z = record {
+  number = rw (lt-leb (length (encode f)) (length s) h) n;
+  size = rw n z;
+  bytes = rw n;
+}
 
-  module _ (e : pairsNumber ok ps ≡ 0) where
-    -- 12
-    pub write-short : length s < length (encode f) → r .number ≡ 12 → r .length ≡ 0 → WritePost (judged ok ps f) s s r
-    write-short h n z =
-        rw (judged-by ok ps f, e)
-        (record {
-          number = rw (lt-leb (length (encode f)) (length s) h) n;
-          size = rw n z;
-          bytes = rw n;
-        })
+pub done-post : (f : Frame) (s t : List ℕ) (r : Written) → r .length ≤ length s → r .number ≡ 0 → PutPost (encode f) s t (r .length) → WritePost (accepted f) s t r
+done-post f s t r h n p = record {
+  number = rw (le-leb (length (encode f)) (length s) (omega arith)) n;
+  size = rw n (p .size);
+  bytes = rw n (p .put ∙ ap (λ (k : ℕ). encode f ++ drop k s) (p .size));
+}
 
-    pub write-done : (t : List ℕ) → r .length ≤ length s → r .number ≡ 0 → PutPost f s t (r .length) → WritePost (judged ok ps f) s t r
-    write-done t h n p =
-        rw (judged-by ok ps f, e)
-        (record {
-          number = rw (le-leb (length (encode f)) (length s) (omega arith)) n;
-          size = rw n (p .size);
-          bytes = rw n (p .bytes ∙ ap (λ (k : ℕ). encode f ++ drop k s) (p .size));
-        })
+-- by the row of the fields' kind
+module _ (x : Fields) (known : 0 < length (rowOf (x .kind) .head)) where
+  by-row : fromFields x
+      ≡ judged (headWithin (rowOf (x .kind) .head) x && pairsWithin (rowOf (x .kind)) x) (pairsOf (rowOf (x .kind)) x)
+      (frameOf (x .kind) (map (valueOf x) (rowOf (x .kind) .head)) (pairsOf (rowOf (x .kind)) x))
+  unfolding fromKind
+  by-row = rw (lt-ltb 0 (length (rowOf (x .kind) .head)) known)
 
--- a kind with pairs: whether its other fields are in range, and then the pairs
-abbrev pub allInRange : Bool → ℕ → ℕ → ℕ → List ℕ → List ℕ → Bool
-allInRange range w most n ts us = range && (enoughPairs most n (length ts) (length us) && allWithin w (side-by-side n ts us))
+  pub head-refused : headWithin (rowOf (x .kind) .head) x ≡ false → fromFields x ≡ refused 5
+  head-refused h = by-row ∙ rw h
 
-module _ (range : Bool) (w most n : ℕ) (ts us : List ℕ) (f : Frame) (s : List ℕ) (r : Written) where
-  pub range-refused : range ≡ false → r .number ≡ 5 → r .length ≡ 0 → WritePost (judged (allInRange range w most n ts us) (side-by-side n ts us) f) s s r
-  unfolding pairsNumber
-  range-refused h e z = write-refused (allInRange range w most n ts us) (side-by-side n ts us) f s r (rw h e) (λ k. omega arith) z
+  module _ (h : headWithin (rowOf (x .kind) .head) x ≡ true) where
+    -- 5 or 6, or 0, of the pairs
+    abbrev pub verdict : ℕ
+    verdict = pairsVerdict (rowOf (x .kind) .amount) (pairsTaken (rowOf (x .kind)) x) (x .terms) (x .amounts)
 
-  module _ (h : range ≡ true) where
-    decides : pairsNumber (allInRange range w most n ts us) (side-by-side n ts us) ≡ pairsVerdict w most n ts us
+    pub pairs-refused : (verdict ≡ 0 → ⊥) → fromFields x ≡ refused verdict
+    unfolding pairsVerdict pairsNumber
+    pairs-refused z = by-row ∙ rw h (go (pairsWithin (rowOf (x .kind)) x) (rising (pairsOf (rowOf (x .kind)) x)) _ z)
+      where
+        go : (a b : Bool) (made : Shape) → (_≡_ {A = ℕ} (cond a (cond b 0 6) 5) 0 → ⊥)
+            → cond a (cond b made (refused 6)) (refused 5) ≡ refused (cond a (cond b 0 6) 5)
+        go true true made z = absurd (z refl)
+        go true false made z = refl
+        go false b made z = refl
+
+    -- the frame that is written
+    pub frame-made : verdict ≡ 0 → Made x (x .kind)
+    frame-made z =
+        let l = verdict-within (rowOf (x .kind) .amount) (pairsTaken (rowOf (x .kind)) x) (x .terms) (x .amounts) z in
+        made x (x .kind) known (length-side (pairsTaken (rowOf (x .kind)) x) (x .terms) (x .amounts) (l .0) (l .1))
+
+    pub frame-accepted : (z : verdict ≡ 0) → fromFields x ≡ accepted (frame-made z .frame)
     unfolding pairsVerdict
-    decides = rw h
+    frame-accepted z =
+        let p = none-refused (pairsWithin (rowOf (x .kind)) x) (pairsOf (rowOf (x .kind)) x) z in
+        by-row ∙ rw (h, p .0, p .1) (frame-made z .is)
 
-    pub pairs-refused : r .number ≡ pairsVerdict w most n ts us → (r .number ≡ 0 → ⊥) → r .length ≡ 0
-        → WritePost (judged (allInRange range w most n ts us) (side-by-side n ts us) f) s s r
-    pairs-refused e k z = write-refused (allInRange range w most n ts us) (side-by-side n ts us) f s r (e ∙ sym decides) k z
+    pub frame-size : (z : verdict ≡ 0)
+        → length (encode (frame-made z .frame)) ≡ bytesFor (bitsOf (widths (rowOf (x .kind))) (rowOf (x .kind) .amount) (pairsTaken (rowOf (x .kind)) x))
+    frame-size z =
+        let row = rowOf (x .kind) in
+        let l = verdict-within (row .amount) (pairsTaken row x) (x .terms) (x .amounts) z in
+        ap length (frame-made z .spelled) ∙ encode-length (widths row) (row .amount) _ (pairsOf row x)
+        ∙ rw (length-side (pairsTaken row x) (x .terms) (x .amounts) (l .0) (l .1))
 
-    module _ (e : pairsVerdict w most n ts us ≡ 0) where
-      pub pairs-short : length s < length (encode f) → r .number ≡ 12 → r .length ≡ 0
-          → WritePost (judged (allInRange range w most n ts us) (side-by-side n ts us) f) s s r
-      pairs-short = write-short (allInRange range w most n ts us) (side-by-side n ts us) f s r (decides ∙ e)
+-- ---- by the code's row
 
-      pub pairs-done : (t : List ℕ) → r .length ≤ length s → r .number ≡ 0 → PutPost f s t (r .length)
-          → WritePost (judged (allInRange range w most n ts us) (side-by-side n ts us) f) s t r
-      pairs-done = write-done (allInRange range w most n ts us) (side-by-side n ts us) f s r (decides ∙ e)
+module _ (x : Fields) (r : Row) (row : RowPost (rowOf (x .kind)) r) where
+  -- the values fit exactly if the fields are in range
+  pub fit-as : (values : List ℕ) (b : Bool) → ValuesPost x values → b ≡ fitting (take (r .fields) (r .widths)) (take (r .fields) values)
+      → b ≡ headWithin (rowOf (x .kind) .head) x
+  fit-as values b post e = e ∙ rw (row .widths, row .fields) (post .fit)
+
+  pub taken-as : (m : ℕ) → m ≡ cond (eqb (r .amount) 0) 0 (x .pairs) → m ≡ pairsTaken (rowOf (x .kind)) x
+  taken-as m e = e ∙ rw (row .amount)
+
+  module _ (m : ℕ) (taken : m ≡ pairsTaken (rowOf (x .kind)) x) where
+    pub verdict-as : (n : ℕ) → n ≡ pairsVerdict (r .amount) m (x .terms) (x .amounts)
+        → n ≡ pairsVerdict (rowOf (x .kind) .amount) (pairsTaken (rowOf (x .kind)) x) (x .terms) (x .amounts)
+    verdict-as n e = e ∙ rw (row .amount, taken)
+
+    pub size-as : (n : ℕ) → n ≡ bytesFor (bitsOf (widths (rowOf (x .kind))) (rowOf (x .kind) .amount) (pairsTaken (rowOf (x .kind)) x))
+        → n ≡ bytesFor (r .bits + m * (termWidth + r .amount))
+    size-as n e = e ∙ sym (rw (row .bits, row .amount, taken))
+
+    pub put-as : (values b s t : List ℕ) (n : ℕ) → take (length (rowOf (x .kind) .head)) values ≡ map (valueOf x) (rowOf (x .kind) .head)
+        → b ≡ writtenBy (rowOf (x .kind)) (x .kind ∷ map (valueOf x) (rowOf (x .kind) .head)) (pairsOf (rowOf (x .kind)) x)
+        → PutPost (written (kindWidth ∷ take (r .fields) (r .widths)) (r .amount) (x .kind ∷ take (r .fields) values) (side-by-side m (x .terms) (x .amounts))) s t n
+        → PutPost b s t n
+    put-as values b s t n v e p = rw e (rw (row .widths, row .fields, v, row .amount, taken) at p)
+
+pub unknown-fields : (x : Fields) → length (rowOf (x .kind) .head) ≡ 0 → fromFields x ≡ refused 2
+unfolding fromKind
+unknown-fields x h = rw (le-ltb 0 (length (rowOf (x .kind) .head)) (omega arith))

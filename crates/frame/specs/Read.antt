@@ -1,19 +1,21 @@
 -- What the reader answers: for each case of a frame the answer's case and values, and the pairs in two arrays.
 -- Document 01, "The frame" and "Replies". Assumes nothing.
-use Prim.Native.Nat.{ℕ, zero, suc, _+_, _*_}
+use Prim.Native.Nat.{ℕ, zero, suc, _+_, _*_, _≤_}
 use mathlib.Core.Path.{_≡_}
 use mathlib.Core.Bool.{Bool, cond}
 use mathlib.Core.List.{List, [], _∷_, map}
-use lib.ListN.{length}
+use lib.ListN.{length, take, getD}
 use lib.Dec.{eqb, leb}
-use Rattle.wire.specs.Field.{field}
-use Rattle.paper.specs.Frame.{Pair, Shape, positive, rising, pairsAt, bytesFor, fillAfter, termWidth, mostPairs, timeOfBytes}
+use Rattle.wire.specs.Field.{field, total}
+use Rattle.paper.specs.Frame.{Pair, Row as TableRow, Shape, kindWidth, width, widths, frameOf, positive, rising, pairsAt, bytesFor, fillAfter, termWidth, mostPairs}
 use Rattle.paper.specs.Frame.Frame.{message, tick, register, unregister}
 use Rattle.paper.specs.Frame.Shape.{refused, accepted}
+use Rattle.paper.specs.Write.{pairsIn}
 use Rattle.frame.specs.declared.Kind.{Kind}
 use Rattle.frame.specs.declared.Kind.the-variants.{Message, Tick, Register, Unregister, Refused}
 use Rattle.frame.specs.declared.Parsed.{Parsed}
 use Rattle.frame.specs.declared.PairList.{PairList}
+use Rattle.frame.specs.declared.Row.{Row}
 
 -- the answer's case and values, for each case of a frame, and the number of a refusal
 abbrev pub answerOf : Shape → Kind
@@ -23,13 +25,9 @@ answerOf (accepted (register t n k ps)) = Register t n k (length ps)
 answerOf (accepted (unregister t n)) = Unregister t n
 answerOf (refused r) = Refused r
 
--- a frame's pairs, none where it has no such field or is refused
-abbrev pub pairsIn : Shape → List Pair
-pairsIn (accepted (message t s ps)) = ps
-pairsIn (accepted (tick t)) = []
-pairsIn (accepted (register t n k ps)) = ps
-pairsIn (accepted (unregister t n)) = []
-pairsIn (refused r) = []
+abbrev pub pairsRead : Shape → List Pair
+pairsRead (accepted f) = pairsIn f
+pairsRead (refused r) = []
 
 -- the first n places of a list, and 0 where it is shorter
 abbrev pub padded : ℕ → List ℕ → List ℕ
@@ -47,14 +45,34 @@ amountArray ps = padded mostPairs (map (λ p. p .amount) ps)
 -- the promise of `read`, for the shape of its bytes
 pub record ReadPost (sh : Shape) (r : Parsed) : Type 0 where
   pub what : r .what ≡ answerOf sh
-  pub terms : r .terms ≡ termArray (pairsIn sh)
-  pub amounts : r .amounts ≡ amountArray (pairsIn sh)
+  pub terms : r .terms ≡ termArray (pairsRead sh)
+  pub amounts : r .amounts ≡ amountArray (pairsRead sh)
 
 -- ---- the inner functions
 
--- kind and time are taken, and the reader stands after their 36 bits
-abbrev pub Started : List ℕ → ℕ → ℕ → Type 0
-Started s at time = (at ≡ 36) × (time ≡ timeOfBytes s)
+-- a row of these fields
+pub record RowWith (n : ℕ) (ws : List ℕ) (w : ℕ) (r : Row) : Type 0 where
+  pub bits : r .bits ≡ kindWidth + (getD ws 0 0 + (getD ws 1 0 + (getD ws 2 0 + (getD ws 3 0 + getD ws 4 0))))
+  pub fields : r .fields ≡ n
+  pub widths : r .widths ≡ ws
+  pub amount : r .amount ≡ w
+
+-- the row of the table that a kind's row in the code stands for
+pub record RowPost (row : TableRow) (r : Row) : Type 0 where
+  pub bits : r .bits ≡ total (widths row)
+  pub fields : r .fields ≡ length (row .head)
+  pub widths : take (r .fields) (r .widths) ≡ map width (row .head)
+  pub amount : r .amount ≡ row .amount
+
+-- no field has more than 32 bits
+abbrev pub Narrow : List ℕ → Type 0
+Narrow [] = Unit {0}
+Narrow (w ∷ ws) = (w ≤ 32) × Narrow ws
+
+-- the answer for a kind with these values, whose m pairs stand in the two arrays
+abbrev pub FramedPost : (kind : ℕ) (values : List ℕ) (m : ℕ) (terms amounts : List ℕ) → Parsed → Type 0
+FramedPost kind values m terms amounts r =
+    (ps : List Pair) → m ≡ length ps → terms ≡ termArray ps → amounts ≡ amountArray ps → ReadPost (frameOf kind values ps) r
 
 -- 5 or 6, or 0, of pairs
 unfoldable pub pairsNumber : Bool → List Pair → ℕ

@@ -1,13 +1,13 @@
 -- What the writer answers and leaves in the output. Document 01, "The frame" and "Replies". Assumes nothing.
-use Prim.Native.Nat.{ℕ, _+_, _^_}
+use Prim.Native.Nat.{ℕ, _+_, _-_, _^_}
 use mathlib.Core.Path.{_≡_}
-use mathlib.Core.Bool.{Bool, cond, _&&_}
-use mathlib.Core.List.{List, _++_}
+use mathlib.Core.Bool.{Bool, true, cond, _&&_}
+use mathlib.Core.List.{List, [], _∷_, _++_, map}
 use lib.ListN.{length, take, drop}
 use lib.Dec.{eqb, leb, ltb}
 use Rattle.wire.specs.Bits.{unpack}
-use Rattle.paper.specs.Frame.{Frame, Shape, encode, termWidth, pairWidths, pairValues}
-use Rattle.paper.specs.Write.{Fields, side-by-side, within, allWithin, writeNumber, bytesOf}
+use Rattle.paper.specs.Frame.{Fields, Shape, width, rowOf, termWidth, pairWidths, pairValues}
+use Rattle.paper.specs.Write.{side-by-side, within, allWithin, headWithin, valueOf, fieldsFor, writeNumber, bytesOf}
 use Rattle.wire.specs.Field.{spell}
 use Rattle.frame.specs.declared.Kind.{Kind}
 use Rattle.frame.specs.declared.Kind.the-variants.{Message, Tick, Register, Unregister, Refused}
@@ -17,16 +17,7 @@ use Rattle.frame.specs.Read.{pairsNumber}
 
 -- the fields that are handed over
 abbrev pub fields : (kind time serial number k pairs : ℕ) (terms amounts : List ℕ) → Fields
-fields kind time serial number k pairs terms amounts = record {
-  kind = kind;
-  time = time;
-  serial = serial;
-  number = number;
-  k = k;
-  pairs = pairs;
-  terms = terms;
-  amounts = amounts;
-}
+fields = fieldsFor
 
 -- the promise of `write`, for what its fields are, with output s at entry and t at exit: the frame's bytes and what stood past them where the
 -- number is 0, and else the output as it was
@@ -52,23 +43,30 @@ fieldsIn r = fieldsBy (r .what) (r .terms) (r .amounts)
 abbrev pub soundPair : ℕ → ℕ → ℕ → Bool
 soundPair limit term amount = ltb term (2 ^ termWidth) && (ltb 0 amount && ltb amount limit)
 
--- whether a query's number and k are within their ranges
-abbrev pub soundQuery : ℕ → ℕ → Bool
-soundQuery number k = ltb number (2 ^ 5) && within (2 ^ 4) k
+-- a number as it stands in a field less one; what is out of range is more than such a field holds
+abbrev pub lessOne : ℕ → ℕ
+lessOne n = cond (within 256 n) (n - 1) (2 ^ 32 - 1)
 
--- whether there are from 1 to `most` pairs, and places of both lists for them
-abbrev pub enoughPairs : ℕ → ℕ → ℕ → ℕ → Bool
-enoughPairs most n a b = within most n && leb n a && leb n b
+-- whether values have no more bits than their fields
+unfoldable pub fitting : List ℕ → List ℕ → Bool
+fitting [] vs = true
+fitting (w ∷ ws) [] = true
+fitting (w ∷ ws) (v ∷ vs) = ltb v (2 ^ w) && fitting ws vs
+
+-- the values of a kind's fields, in the first places: they fit exactly if the fields are in range, and are then what is written
+pub record ValuesPost (x : Fields) (values : List ℕ) : Type 0 where
+  pub fit : fitting (map width (rowOf (x .kind) .head)) (take (length (rowOf (x .kind) .head)) values) ≡ headWithin (rowOf (x .kind) .head) x
+  pub are : headWithin (rowOf (x .kind) .head) x ≡ true → take (length (rowOf (x .kind) .head)) values ≡ map (valueOf x) (rowOf (x .kind) .head)
 
 -- 5 or 6, or 0, of the pairs that are handed over
-unfoldable pub pairsVerdict : ℕ → ℕ → ℕ → List ℕ → List ℕ → ℕ
-pairsVerdict w most n ts us =
-    pairsNumber (enoughPairs most n (length ts) (length us) && allWithin w (side-by-side n ts us)) (side-by-side n ts us)
+unfoldable pub pairsVerdict : ℕ → ℕ → List ℕ → List ℕ → ℕ
+pairsVerdict w n ts us =
+    pairsNumber (leb n (length ts) && leb n (length us) && allWithin w (side-by-side n ts us)) (side-by-side n ts us)
 
--- a frame put into output s, which leaves t, and its length in bytes
-pub record PutPost (f : Frame) (s t : List ℕ) (r : ℕ) : Type 0 where
-  pub size : r ≡ length (encode f)
-  pub bytes : t ≡ encode f ++ drop r s
+-- bytes put into output s, which leaves t, and their number
+pub record PutPost (bytes s t : List ℕ) (r : ℕ) : Type 0 where
+  pub size : r ≡ length bytes
+  pub put : t ≡ bytes ++ drop r s
 
 -- the bits of s, with those from bit `at` replaced by bs
 unfoldable pub laid : List ℕ → ℕ → List Bool → List Bool

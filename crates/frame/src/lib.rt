@@ -1,16 +1,17 @@
 // Frames: what a slice of bytes says, and the bytes of a frame's fields.
 ghost use mathlib.Core.Path.{_≡_};
-ghost use Prim.Native.Nat.{_+_, _*_, _≤_, _<_, _^_};
-ghost use lib.ListN.{length};
-ghost use mathlib.Core.List.{[], _∷_};
+ghost use Prim.Native.Nat.{ℕ, _+_, _-_, _*_, _≤_, _<_, _^_};
+ghost use lib.ListN.{length, take, getD};
+ghost use lib.Dec.{eqb};
+ghost use mathlib.Core.Bool.{cond};
+ghost use mathlib.Core.List.{List, [], _∷_};
 ghost use Rattle.wire.specs.Bits.{unpack};
-ghost use Rattle.wire.specs.Field.{field, placed, spell};
-ghost use Rattle.paper.specs.Frame.{Shape, shape, shapeOfKind, bytesFor, fillAfter, tickHead};
+ghost use Rattle.wire.specs.Field.{field, placed, total, spell, scan};
+ghost use Rattle.paper.specs.Frame.{shape, shapeOfKind, rowOf, kindWidth, written, bytesFor, fillAfter};
 ghost use Rattle.paper.specs.Frame.Shape.{refused};
-ghost use Rattle.paper.specs.Frame.Frame.{message, register};
 ghost use Rattle.paper.specs.Write.{fromFields, side-by-side};
-ghost use Rattle.frame.specs.Read.{ReadPost, PairsPost, CheckedPost, Started, judgeNext, fitNumber};
-ghost use Rattle.frame.specs.Write.{WritePost, PutPost, fields, soundPair, soundQuery, enoughPairs, pairsVerdict, pairBits, laid};
+ghost use Rattle.frame.specs.Read.{ReadPost, PairsPost, CheckedPost, RowWith, RowPost, FramedPost, Narrow, padded, judgeNext, fitNumber};
+ghost use Rattle.frame.specs.Write.{WritePost, ValuesPost, PutPost, fields, fitting, lessOne, soundPair, pairsVerdict, pairBits, laid};
 
 // What a frame is, or the number that refuses it. Its pairs stand beside it, in Parsed.
 pub enum Kind {
@@ -47,6 +48,40 @@ struct PairList {
     number: u32,
     terms: [u32; 16],
     amounts: [u32; 16],
+}
+
+// A kind's row of the table: the widths of its fields after the kind, in the first places of an array, and of a count or weight, which is 0 where the
+// kind has no pairs; and the bits of all its fields before the pairs. A kind without a row has no fields.
+struct Row {
+    bits: usize,
+    fields: usize,
+    widths: [usize; 5],
+    amount: usize,
+}
+
+fn row_with(fields: usize, widths: [usize; 5], amount: usize) -> Row
+    requires { ⌜ Narrow (take 5 widths) ⌝ }
+    ensures { λ r. ⌜ RowWith fields widths amount r ⌝ }
+{
+    Row {
+        bits: 4 + (widths[0] + (widths[1] + (widths[2] + (widths[3] + widths[4])))),
+        fields,
+        widths,
+        amount,
+    }
+}
+
+// A new kind is one more row here, and one more case of framed and of values_of.
+fn row_of(kind: u32) -> Row
+    ensures { λ r. ⌜ RowPost (rowOf kind) r ⌝ }
+{
+    match kind {
+        1 => row_with(3, [32, 20, 4, 0, 0], 8),
+        2 => row_with(1, [32, 0, 0, 0, 0], 0),
+        3 => row_with(4, [32, 5, 4, 3, 0], 4),
+        4 => row_with(2, [32, 5, 0, 0, 0], 0),
+        _ => row_with(0, [0, 0, 0, 0, 0], 0),
+    }
 }
 
 // One pair more, after pairs judged by number: 5 before 6. The terms before it are below least.
@@ -126,123 +161,114 @@ fn checked_pairs(bytes: &[u8], head: usize, width: usize, m: usize) -> PairList
     take_pairs(bytes, head, width, m)
 }
 
-fn refusal(number: u32) -> Parsed
-    ensures { λ r. ⌜ ReadPost (refused number) r ⌝ }
+// An answer without pairs.
+fn pairless(what: Kind) -> Parsed
+    ensures { λ r. ⌜ (r .what ≡ what) × (r .terms ≡ padded 16 []) × (r .amounts ≡ padded 16 []) ⌝ }
 {
     Parsed {
-        what: Kind::Refused(number),
+        what,
         terms: [0u32; 16],
         amounts: [0u32; 16],
     }
 }
 
-// A message's fields from bit `at`, which stands after kind and time.
-fn read_message(bytes: &[u8], at: usize, time: u32) -> Parsed
-    requires { ⌜ Started (now bytes) at time ⌝ }
-    ensures { λ r. ⌜ ReadPost (shapeOfKind 1 (now (bytes .entry))) r ⌝ }
+fn refusal(number: u32) -> Parsed
+    ensures { λ r. ⌜ ReadPost (refused number) r ⌝ }
 {
-    // too short for the number of pairs, and so for any pair
-    if bytes.len() < 8 {
-        return refusal(3);
-    }
-    let serial = wire::take_bits(bytes, at, 20);
-    let pairs = wire::take_bits(bytes, at + 20, 4) as usize + 1;
-    let p = checked_pairs(bytes, at + 24, 8, pairs);
-    if p.number != 0 {
-        return refusal(p.number);
-    }
-    let terms = p.terms;
-    let amounts = p.amounts;
-    Parsed {
-        what: Kind::Message {
-            time,
-            serial,
-            pairs,
-        },
-        terms,
-        amounts,
-    }
+    pairless(Kind::Refused(number))
 }
 
-fn read_tick(bytes: &[u8], at: usize, time: u32) -> Parsed
-    requires { ⌜ Started (now bytes) at time ⌝ }
-    ensures { λ r. ⌜ ReadPost (shapeOfKind 2 (now (bytes .entry))) r ⌝ }
+// The values of fields of these widths, one after the other from bit `at`.
+fn take_fields(bytes: &[u8], at: usize, widths: [usize; 5], fields: usize) -> [u32; 5]
+    requires { ⌜ (at + total (take fields widths) ≤ 8 * length (now bytes)) × (at + total (take fields widths) ≤ 1024) ⌝ }
+    requires { ⌜ (fields ≤ 5) × Narrow (take fields widths) ⌝ }
+    ensures { λ r. ⌜ r ≡ padded 5 (scan (now (bytes .entry)) at (take fields widths)) ⌝ }
 {
-    let p = checked_pairs(bytes, at, 0, 0);
-    if p.number != 0 {
-        return refusal(p.number);
+    let mut values = [0u32; 5];
+    let mut next = at;
+    let mut i = 0;
+    while i < fields {
+        let width = widths[i];
+        let value = wire::take_bits(bytes, next, width);
+        values[i] = value;
+        next += width;
+        i += 1;
     }
-    let terms = p.terms;
-    let amounts = p.amounts;
-    Parsed {
-        what: Kind::Tick { time },
-        terms,
-        amounts,
-    }
+    values
 }
 
-fn read_register(bytes: &[u8], at: usize, time: u32) -> Parsed
-    requires { ⌜ Started (now bytes) at time ⌝ }
-    ensures { λ r. ⌜ ReadPost (shapeOfKind 3 (now (bytes .entry))) r ⌝ }
+// How many pairs follow: the last field says one less, where the kind has pairs.
+fn pairs_by(amount: usize, fields: usize, values: [u32; 5]) -> usize
+    requires { ⌜ (0 < fields) × (fields ≤ 5) ⌝ }
+    ensures { λ r. ⌜ r ≡ cond (eqb amount 0) 0 (getD values (fields - 1) 0 + 1) ⌝ }
 {
-    // too short for the number of terms, and so for any term
-    if bytes.len() < 6 {
-        return refusal(3);
+    if amount == 0 {
+        return 0;
     }
-    let number = wire::take_bits(bytes, at, 5);
-    let k = wire::take_bits(bytes, at + 5, 4) + 1;
-    let n = wire::take_bits(bytes, at + 9, 3) as usize + 1;
-    let p = checked_pairs(bytes, at + 12, 4, n);
-    if p.number != 0 {
-        return refusal(p.number);
-    }
-    let terms = p.terms;
-    let amounts = p.amounts;
-    Parsed {
-        what: Kind::Register {
-            time,
-            number,
-            k,
-            terms: n,
-        },
-        terms,
-        amounts,
-    }
+    values[fields - 1] as usize + 1
 }
 
-fn read_unregister(bytes: &[u8], at: usize, time: u32) -> Parsed
-    requires { ⌜ Started (now bytes) at time ⌝ }
-    ensures { λ r. ⌜ ReadPost (shapeOfKind 4 (now (bytes .entry))) r ⌝ }
+// The frame of a kind with these values and pairs.
+fn framed(kind: u32, values: [u32; 5], m: usize, terms: [u32; 16], amounts: [u32; 16]) -> Parsed
+    requires { ⌜ getD values 2 0 < 16 ⌝ }
+    ensures { λ r. ⌜ FramedPost kind values m terms amounts r ⌝ }
 {
-    let p = checked_pairs(bytes, at + 5, 0, 0);
-    if p.number != 0 {
-        return refusal(p.number);
-    }
-    let number = wire::take_bits(bytes, at, 5);
-    let terms = p.terms;
-    let amounts = p.amounts;
-    Parsed {
-        what: Kind::Unregister { time, number },
-        terms,
-        amounts,
-    }
-}
-
-// The fields of any kind from bit `at`.
-fn read_kind(bytes: &[u8], at: usize, kind: u32, time: u32) -> Parsed
-    requires { ⌜ Started (now bytes) at time ⌝ }
-    ensures { λ r. ⌜ ReadPost (shapeOfKind kind (now (bytes .entry))) r ⌝ }
-{
+    let time = values[0];
     match kind {
-        1 => read_message(bytes, at, time),
-        2 => read_tick(bytes, at, time),
-        3 => read_register(bytes, at, time),
-        4 => read_unregister(bytes, at, time),
+        1 => Parsed {
+            what: Kind::Message {
+                time,
+                serial: values[1],
+                pairs: m,
+            },
+            terms,
+            amounts,
+        },
+        2 => pairless(Kind::Tick { time }),
+        3 => Parsed {
+            what: Kind::Register {
+                time,
+                number: values[1],
+                k: values[2] + 1,
+                terms: m,
+            },
+            terms,
+            amounts,
+        },
+        4 => pairless(Kind::Unregister {
+            time,
+            number: values[1],
+        }),
         _ => refusal(2),
     }
 }
 
-// The fields in order from one reader: kind and time, and then those of the kind from the bit where it stands.
+// The fields after the kind, which end at bit `at`, by the kind's row.
+fn read_kind(bytes: &[u8], at: usize, kind: u32) -> Parsed
+    requires { ⌜ at ≡ kindWidth ⌝ }
+    ensures { λ r. ⌜ ReadPost (shapeOfKind kind (now (bytes .entry))) r ⌝ }
+{
+    let row = row_of(kind);
+    if row.fields == 0 {
+        return refusal(2);
+    }
+    // too short for the number of pairs, and so for any pair
+    if bytes.len() < (row.bits + 7) / 8 {
+        return refusal(3);
+    }
+    let widths = row.widths;
+    let values = take_fields(bytes, at, widths, row.fields);
+    let m = pairs_by(row.amount, row.fields, values);
+    let p = checked_pairs(bytes, row.bits, row.amount, m);
+    if p.number != 0 {
+        return refusal(p.number);
+    }
+    let terms = p.terms;
+    let amounts = p.amounts;
+    framed(kind, values, m, terms, amounts)
+}
+
+// The fields in order from one reader: the kind, and then those of its row from the bit where the reader stands.
 fn read_fields(bytes: &[u8]) -> Parsed
     requires { ⌜ 5 ≤ length (now bytes) ⌝ }
     ensures { λ r. ⌜ ReadPost (shapeOfKind (field (now (bytes .entry)) 0 4) (now (bytes .entry))) r ⌝ }
@@ -250,9 +276,7 @@ fn read_fields(bytes: &[u8]) -> Parsed
     let r = wire::BitReader::new(bytes);
     let kind = r.take(4);
     let r = r.after(4);
-    let time = r.take(32);
-    let r = r.after(32);
-    read_kind(r.frame, r.at, kind, time)
+    read_kind(r.frame, r.at, kind)
 }
 
 // What the bytes are: a frame, or the first of the refusals 1 to 6 that applies.
@@ -283,25 +307,66 @@ fn sound_pair(term: u32, amount: u32, limit: u32) -> bool
     term < 1024 && (0 < amount && amount < limit)
 }
 
-// Whether a query's number and k are within their ranges.
-fn sound_query(number: u32, k: u32) -> bool
-    ensures { λ r. ⌜ r ≡ soundQuery number k ⌝ }
+// A number as it stands in a field less one: out of range it is more than such a field holds.
+fn less_one(n: usize) -> u32
+    ensures { λ r. ⌜ r ≡ lessOne n ⌝ }
 {
-    number < 32 && (0 < k && k <= 16)
+    if n == 0 {
+        return 4294967295;
+    }
+    if 256 < n {
+        return 4294967295;
+    }
+    (n - 1) as u32
 }
 
-fn enough_pairs(most: usize, pairs: usize, terms: usize, amounts: usize) -> bool
-    ensures { λ r. ⌜ r ≡ enoughPairs most pairs terms amounts ⌝ }
+// The values of a kind's fields after the kind.
+fn values_of(kind: u32, time: u32, serial: u32, number: u32, k: u32, pairs: usize) -> [u32; 5]
+    ensures { λ r. ⌜ ((ts us : List ℕ) → ValuesPost (fields kind time serial number k pairs ts us) r) ⌝ }
 {
-    0 < pairs && (pairs <= most && (pairs <= terms && pairs <= amounts))
+    match kind {
+        1 => [time, serial, less_one(pairs), 0, 0],
+        2 => [time, 0, 0, 0, 0],
+        3 => [time, number, less_one(k as usize), less_one(pairs), 0],
+        4 => [time, number, 0, 0, 0],
+        _ => [0, 0, 0, 0, 0],
+    }
+}
+
+// How many pairs a kind takes: none where its counts or weights have no bits.
+fn pairs_taken(amount: usize, pairs: usize) -> usize
+    ensures { λ r. ⌜ r ≡ cond (eqb amount 0) 0 pairs ⌝ }
+{
+    if amount == 0 {
+        return 0;
+    }
+    pairs
+}
+
+// Whether each value has no more bits than its field.
+fn fit(widths: [usize; 5], fields: usize, values: [u32; 5]) -> bool
+    requires { ⌜ (fields ≤ 5) × Narrow (take fields widths) ⌝ }
+    ensures { λ r. ⌜ r ≡ fitting (take fields widths) (take fields values) ⌝ }
+{
+    let mut i = 0;
+    while i < fields {
+        if 1u64 << widths[i] <= values[i] as u64 {
+            return false;
+        }
+        i += 1;
+    }
+    true
 }
 
 // 5 or 6, or 0, of the first places of both slices as pairs.
-fn judge_pairs(width: usize, most: usize, pairs: usize, terms: &[u16], amounts: &[u8]) -> u32
+fn judge_pairs(width: usize, pairs: usize, terms: &[u16], amounts: &[u8]) -> u32
     requires { ⌜ width < 32 ⌝ }
-    ensures { λ r. ⌜ r ≡ pairsVerdict width most pairs (now (terms .entry)) (now (amounts .entry)) ⌝ }
+    ensures { λ r. ⌜ r ≡ pairsVerdict width pairs (now (terms .entry)) (now (amounts .entry)) ⌝ }
 {
-    if !enough_pairs(most, pairs, terms.len(), amounts.len()) {
+    if terms.len() < pairs {
+        return 5;
+    }
+    if amounts.len() < pairs {
         return 5;
     }
     let limit = 1u32 << width;
@@ -345,128 +410,44 @@ fn put_fill(out: &mut [u8], bits: usize) -> usize
     length
 }
 
-// The two fields that every frame starts with.
-fn put_start(out: &mut [u8], kind: u32, time: u32)
-    requires { ⌜ 5 ≤ length (now out) ⌝ }
-    ensures { λ _. ⌜ unpack (now (out .exit)) ≡ laid (now (out .entry)) 0 (spell tickHead (kind ∷ time ∷ [])) ⌝ }
+// Values into fields of these widths, one after the other from bit `at`.
+fn put_fields(out: &mut [u8], at: usize, widths: [usize; 5], fields: usize, values: [u32; 5])
+    requires { ⌜ (at + total (take fields widths) ≤ 8 * length (now out)) × (at + total (take fields widths) ≤ 1024) ⌝ }
+    requires { ⌜ (fields ≤ 5) × Narrow (take fields widths) ⌝ }
+    ensures { λ _. ⌜ unpack (now (out .exit)) ≡ laid (now (out .entry)) at (spell (take fields widths) (take fields values)) ⌝ }
+{
+    let mut next = at;
+    let mut i = 0;
+    while i < fields {
+        let width = widths[i];
+        wire::put_bits(out, next, width, values[i]);
+        next += width;
+        i += 1;
+    }
+}
+
+// The kind, the values of its fields, the pairs and the fill; the length in bytes. The fields before the pairs have `bits` bits.
+fn put(
+    out: &mut [u8],
+    kind: u32,
+    bits: usize,
+    widths: [usize; 5],
+    fields: usize,
+    values: [u32; 5],
+    amount: usize,
+    pairs: usize,
+    terms: &[u16],
+    amounts: &[u8],
+) -> usize
+    requires { ⌜ (bits ≡ total (kindWidth ∷ take fields widths)) × (fields ≤ 5) × Narrow (take fields widths) ⌝ }
+    requires { ⌜ (amount ≤ 32) × (pairs ≤ length (now terms)) × (pairs ≤ length (now amounts)) ⌝ }
+    requires { ⌜ (bits + pairs * (10 + amount) ≤ 1024) × (bytesFor (bits + pairs * (10 + amount)) ≤ length (now out)) ⌝ }
+    ensures { λ r. ⌜ PutPost (written (kindWidth ∷ take fields widths) amount (kind ∷ take fields values) (side-by-side pairs (now (terms .entry)) (now (amounts .entry)))) (now (out .entry)) (now (out .exit)) r ⌝ }
 {
     wire::put_bits(out, 0, 4, kind);
-    wire::put_bits(out, 4, 32, time);
-}
-
-fn put_message(
-    out: &mut [u8],
-    time: u32,
-    serial: u32,
-    pairs: usize,
-    terms: &[u16],
-    amounts: &[u8],
-) -> usize
-    requires { ⌜ (0 < pairs) × (pairs ≤ 16) × (pairs ≤ length (now terms)) × (pairs ≤ length (now amounts)) ⌝ }
-    requires { ⌜ bytesFor (60 + pairs * 18) ≤ length (now out) ⌝ }
-    ensures { λ r. ⌜ PutPost (message time serial (side-by-side pairs (now (terms .entry)) (now (amounts .entry)))) (now (out .entry)) (now (out .exit)) r ⌝ }
-{
-    put_start(out, 1, time);
-    wire::put_bits(out, 36, 20, serial);
-    wire::put_bits(out, 56, 4, (pairs - 1) as u32);
-    put_pairs(out, 60, 8, pairs, terms, amounts);
-    put_fill(out, 60 + pairs * 18)
-}
-
-fn write_message(
-    out: &mut [u8],
-    time: u32,
-    serial: u32,
-    pairs: usize,
-    terms: &[u16],
-    amounts: &[u8],
-) -> Written
-    ensures { λ r. ⌜ WritePost (fromFields (fields 1 time serial 0 0 pairs (now (terms .entry)) (now (amounts .entry)))) (now (out .entry)) (now (out .exit)) r ⌝ }
-{
-    if 1048576 <= serial {
-        return unwritten(5);
-    }
-    let number = judge_pairs(8, 16, pairs, terms, amounts);
-    if number != 0 {
-        return unwritten(number);
-    }
-    if out.len() < (60 + pairs * 18 + 7) / 8 {
-        return unwritten(12);
-    }
-    let length = put_message(out, time, serial, pairs, terms, amounts);
-    Written { number: 0, length }
-}
-
-fn write_tick(out: &mut [u8], time: u32) -> Written
-    ensures { λ r. ⌜ WritePost (fromFields (fields 2 time 0 0 0 0 [] [])) (now (out .entry)) (now (out .exit)) r ⌝ }
-{
-    if out.len() < 5 {
-        return unwritten(12);
-    }
-    put_start(out, 2, time);
-    let length = put_fill(out, 36);
-    Written { number: 0, length }
-}
-
-fn put_register(
-    out: &mut [u8],
-    time: u32,
-    number: u32,
-    k: u32,
-    pairs: usize,
-    terms: &[u16],
-    amounts: &[u8],
-) -> usize
-    requires { ⌜ (0 < k) × (0 < pairs) × (pairs ≤ 8) × (pairs ≤ length (now terms)) × (pairs ≤ length (now amounts)) ⌝ }
-    requires { ⌜ bytesFor (48 + pairs * 14) ≤ length (now out) ⌝ }
-    ensures { λ r. ⌜ PutPost (register time number k (side-by-side pairs (now (terms .entry)) (now (amounts .entry)))) (now (out .entry)) (now (out .exit)) r ⌝ }
-{
-    put_start(out, 3, time);
-    wire::put_bits(out, 36, 5, number);
-    wire::put_bits(out, 41, 4, k - 1);
-    wire::put_bits(out, 45, 3, (pairs - 1) as u32);
-    put_pairs(out, 48, 4, pairs, terms, amounts);
-    put_fill(out, 48 + pairs * 14)
-}
-
-fn write_register(
-    out: &mut [u8],
-    time: u32,
-    number: u32,
-    k: u32,
-    pairs: usize,
-    terms: &[u16],
-    amounts: &[u8],
-) -> Written
-    ensures { λ r. ⌜ WritePost (fromFields (fields 3 time 0 number k pairs (now (terms .entry)) (now (amounts .entry)))) (now (out .entry)) (now (out .exit)) r ⌝ }
-{
-    if !sound_query(number, k) {
-        return unwritten(5);
-    }
-    let judged = judge_pairs(4, 8, pairs, terms, amounts);
-    if judged != 0 {
-        return unwritten(judged);
-    }
-    if out.len() < (48 + pairs * 14 + 7) / 8 {
-        return unwritten(12);
-    }
-    let length = put_register(out, time, number, k, pairs, terms, amounts);
-    Written { number: 0, length }
-}
-
-fn write_unregister(out: &mut [u8], time: u32, number: u32) -> Written
-    ensures { λ r. ⌜ WritePost (fromFields (fields 4 time 0 number 0 0 [] [])) (now (out .entry)) (now (out .exit)) r ⌝ }
-{
-    if 32 <= number {
-        return unwritten(5);
-    }
-    if out.len() < 6 {
-        return unwritten(12);
-    }
-    put_start(out, 4, time);
-    wire::put_bits(out, 36, 5, number);
-    let length = put_fill(out, 41);
-    Written { number: 0, length }
+    put_fields(out, 4, widths, fields, values);
+    put_pairs(out, bits, amount, pairs, terms, amounts);
+    put_fill(out, bits + pairs * (10 + amount))
 }
 
 // The bytes of the frame with these fields, into out. Only the fields of the kind are looked at; the pairs are the first places of both slices.
@@ -483,11 +464,34 @@ pub fn write(
 ) -> Written
     ensures { λ r. ⌜ WritePost (fromFields (fields kind time serial number k pairs (now (terms .entry)) (now (amounts .entry)))) (now (out .entry)) (now (out .exit)) r ⌝ }
 {
-    match kind {
-        1 => write_message(out, time, serial, pairs, terms, amounts),
-        2 => write_tick(out, time),
-        3 => write_register(out, time, number, k, pairs, terms, amounts),
-        4 => write_unregister(out, time, number),
-        _ => unwritten(2),
+    let row = row_of(kind);
+    if row.fields == 0 {
+        return unwritten(2);
     }
+    let widths = row.widths;
+    let values = values_of(kind, time, serial, number, k, pairs);
+    if !fit(widths, row.fields, values) {
+        return unwritten(5);
+    }
+    let m = pairs_taken(row.amount, pairs);
+    let judged = judge_pairs(row.amount, m, terms, amounts);
+    if judged != 0 {
+        return unwritten(judged);
+    }
+    if out.len() < (row.bits + m * (10 + row.amount) + 7) / 8 {
+        return unwritten(12);
+    }
+    let length = put(
+        out,
+        kind,
+        row.bits,
+        widths,
+        row.fields,
+        values,
+        row.amount,
+        m,
+        terms,
+        amounts,
+    );
+    Written { number: 0, length }
 }

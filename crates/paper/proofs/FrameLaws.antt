@@ -10,13 +10,13 @@ use mathlib.Core.List.{List, [], _∷_, _++_}
 use lib.ListN.{length, getD}
 use lib.Dec.{eqb, ltb, lit≤, lit<}
 use lib.Pow.{pow-pos}
-use borrow.Author.Tests.{eqb-true, eq-eqb, le-ltb}
+use borrow.Author.Tests.{eqb-true, eq-eqb, ne-eqb, le-ltb}
 use Rattle.wire.specs.Bits.{Bytes, pack}
 use Rattle.wire.specs.Field.{field, total, spell, scan, Fit}
 use Rattle.wire.proofs.BitLaws.{length-pack}
 use Rattle.wire.proofs.FieldLaws.{field-lt}
 use Rattle.wire.proofs.LayoutLaws.{scan-spell, pack-scan, total-append, scan-append, scan-parts, fit-append}
-use Rattle.paper.specs.Frame.{Pair, Frame, Shape, Pairs, AllFit, Valid, messageHead, tickHead, registerHead, unregisterHead, termWidth, countWidth, weightWidth, mostPairs, mostTerms, pairWidths, pairValues, bitsOf, bytesFor, fillAfter, written, encode, pairsAt, positive, rises, rising, check, shapeOfKind, shape}
+use Rattle.paper.specs.Frame.{Pair, Frame, Shape, Pairs, AllFit, Valid, messageRow, tickRow, registerRow, unregisterRow, noRow, rowOf, widths, frameOf, termWidth, countWidth, weightWidth, mostPairs, mostTerms, pairWidths, pairValues, bitsOf, bytesFor, fillAfter, written, encode, pairsAt, positive, rises, rising, check, shapeOfKind, shape}
 use Rattle.paper.specs.Frame.Frame.{message, tick, register, unregister}
 use Rattle.paper.specs.Frame.Shape.{refused, accepted}
 
@@ -133,7 +133,7 @@ pub or-refused : (P : Shape → Type 0) (t : Bool) {x y : Shape} → P y → (t 
 or-refused P t k h = by-test P t h (λ _. k)
 
 pub check-reads : (s head : List ℕ) (w : ℕ) (values : List ℕ) (ps : List Pair) (make : List Pair → Frame) → Reads s head w values ps → positive ps ≡ true → rising ps ≡ true
-    → check s head w (length ps) make ≡ accepted (make ps)
+    → check s head w (length ps) (λ qs. accepted (make qs)) ≡ accepted (make ps)
 unfolding check
 check-reads s head w values ps make r p o =
     let b : ℕ = bitsOf head w (length ps) in
@@ -159,7 +159,7 @@ module _ (s head : List ℕ) (w m : ℕ) where
       record { long = rw n long; fields = refl; pairs = rw n; fill = rw n fill }
 
   check-sound : (make : List Pair → Frame) → (positive found ≡ true → rising found ≡ true → Valid (make found))
-      → encode (make found) ≡ written head w (scan s 0 head) found → Sound s (check s head w m make)
+      → encode (make found) ≡ written head w (scan s 0 head) found → Sound s (check s head w m (λ ps. accepted (make ps)))
   unfolding check
   check-sound make valid is =
       let b : ℕ = bitsOf head w m in
@@ -184,25 +184,47 @@ module _ (s : List ℕ) (at w n : ℕ) where
         in-order = o;
       }
 
+-- ---- the kinds
+
+pub no-row : (k : ℕ) → (k ≡ 1 → ⊥) → (k ≡ 2 → ⊥) → (k ≡ 3 → ⊥) → (k ≡ 4 → ⊥) → rowOf k ≡ noRow
+unfolding rowOf
+no-row k a b c d = rw (ne-eqb k 1 a, ne-eqb k 2 b, ne-eqb k 3 c, ne-eqb k 4 d)
+
+-- a claim about every kind, from the claims about those with a row and about the others
+pub by-kind : (P : ℕ → Type 0) → P 1 → P 2 → P 3 → P 4 → ((k : ℕ) → rowOf k ≡ noRow → P k) → (k : ℕ) → P k
+by-kind P a b c d e zero = e zero (no-row zero (λ z. omega arith) (λ z. omega arith) (λ z. omega arith) (λ z. omega arith))
+by-kind P a b c d e (suc zero) = a
+by-kind P a b c d e (suc (suc zero)) = b
+by-kind P a b c d e (suc (suc (suc zero))) = c
+by-kind P a b c d e (suc (suc (suc (suc zero)))) = d
+by-kind P a b c d e (suc (suc (suc (suc (suc k))))) =
+    e (suc (suc (suc (suc (suc k))))) (no-row _ (λ z. omega arith) (λ z. omega arith) (λ z. omega arith) (λ z. omega arith))
+
 -- ---- bytes to frame, kind by kind
 
+pub unknown-shape : (s : List ℕ) (k : ℕ) → rowOf k ≡ noRow → shapeOfKind k s ≡ refused 2
+unfolding shapeOfKind
+unknown-shape s k e = rw e
+
 kind-sound : (s : List ℕ) (k : ℕ) → field s 0 4 ≡ k → Sound s (shapeOfKind k s)
-unfolding shapeOfKind encode scan pairsAt
-kind-sound s k e =
-    by-test (Sound s) (eqb k 1) (λ t.
-    check-sound s messageHead countWidth (field s 56 4 + 1) _
-    (λ p o. record { time = field-lt s 4 32; serial = field-lt s 36 20; pairs = pairs-valid s _ countWidth (field s 56 4) mostPairs (field-lt s 56 4) p o })
-    (rw (is 1 t, less-one s (total messageHead) countWidth (field s 56 4))))
-    (λ _. by-test (Sound s) (eqb k 2) (λ t. check-sound s tickHead 0 0 _ (λ _ _. field-lt s 4 32) (rw (is 2 t)))
-    (λ _. by-test (Sound s) (eqb k 3) (λ t.
-    check-sound s registerHead weightWidth (field s 45 3 + 1) _
-    (λ p o. record { time = field-lt s 4 32; number = field-lt s 36 5; k-least = omega arith; k-most = omega (arith, field-lt s 41 4); terms = pairs-valid s _ weightWidth (field s 45 3) mostTerms (field-lt s 45 3) p o })
-    (rw (is 3 t, less-one s (total registerHead) weightWidth (field s 45 3), add-sub-cancel (field s 41 4) 1)))
-    (λ _. by-test (Sound s) (eqb k 4) (λ t. check-sound s unregisterHead 0 0 _ (λ _ _. (field-lt s 4 32, field-lt s 36 5)) (rw (is 4 t)))
-    (λ _. (lit≤ tt, lit≤ tt)))))
-  where
-    is : (n : ℕ) → eqb k n ≡ true → field s 0 4 ≡ n
-    is n t = e ∙ eqb-true k n t
+unfolding shapeOfKind rowOf frameOf encode scan total pairsAt
+kind-sound s =
+    by-kind (λ k. field s 0 4 ≡ k → Sound s (shapeOfKind k s))
+    (λ e. check-sound s (widths messageRow) countWidth (field s 56 4 + 1) (message (field s 4 32) (field s 36 20))
+    (λ p o. record { time = field-lt s 4 32; serial = field-lt s 36 20; pairs = pairs-valid s 60 countWidth (field s 56 4) mostPairs (field-lt s 56 4) p o })
+    (rw (e, less-one s 60 countWidth (field s 56 4))))
+    (λ e. check-sound s (widths tickRow) 0 0 (λ _. tick (field s 4 32)) (λ _ _. field-lt s 4 32) (rw e))
+    (λ e. check-sound s (widths registerRow) weightWidth (field s 45 3 + 1) (register (field s 4 32) (field s 36 5) (field s 41 4 + 1))
+    (λ p o. record {
+      time = field-lt s 4 32;
+      number = field-lt s 36 5;
+      k-least = omega arith;
+      k-most = omega (arith, field-lt s 41 4);
+      terms = pairs-valid s 48 weightWidth (field s 45 3) mostTerms (field-lt s 45 3) p o;
+    })
+    (rw (e, less-one s 48 weightWidth (field s 45 3), add-sub-cancel (field s 41 4) 1)))
+    (λ e. check-sound s (widths unregisterRow) 0 0 (λ _. unregister (field s 4 32) (field s 36 5)) (λ _ _. (field-lt s 4 32, field-lt s 36 5)) (rw e))
+    (λ k none e. rw (unknown-shape s k none) (lit≤ tt, lit≤ tt))
 
 shape-sound : (s : List ℕ) → Sound s (shape s)
 unfolding shape
@@ -230,7 +252,7 @@ more e h = omega arith
 -- what is written with these values after the kind is accepted, if they lead to the check of the pairs
 accepts : (k : ℕ) (head : List ℕ) (w : ℕ) (values : List ℕ) (ps : List Pair) (make : List Pair → Frame) → 29 ≤ total head
     → Fit (4 ∷ head) (k ∷ values) → AllFit w ps → positive ps ≡ true → rising ps ≡ true
-    → ((s : List ℕ) → scan s 0 (4 ∷ head) ≡ k ∷ values → shapeOfKind k s ≡ check s (4 ∷ head) w (length ps) make)
+    → ((s : List ℕ) → scan s 0 (4 ∷ head) ≡ k ∷ values → shapeOfKind k s ≡ check s (4 ∷ head) w (length ps) (λ qs. accepted (make qs)))
     → shape (written (4 ∷ head) w (k ∷ values) ps) ≡ accepted (make ps)
 unfolding shape total scan
 accepts k head w values ps make long fit all-fit p o is =
@@ -239,25 +261,29 @@ accepts k head w values ps make long fit all-fit p o is =
     rw (le-ltb (length s) 5 (omega arith), at 0 (r .fields), is s (r .fields)) (check-reads s (4 ∷ head) w (k ∷ values) ps make r p o)
 
 pub shape-encode : (f : Frame) → Valid f → shape (encode f) ≡ accepted f
-unfolding encode scan total shapeOfKind positive rises
+unfolding encode scan total shapeOfKind rowOf frameOf positive rises
 shape-encode (message t n ps) v =
-    accepts 1 _ countWidth _ ps (message t n) (lit≤ tt) (lit< tt, (v .time, (v .serial, (omega arith, tt)))) (v .pairs .fit) (v .pairs .above-zero) (v .pairs .in-order)
-    (λ s e i. check s messageHead countWidth (more (at 3 e) (v .pairs .least-one) i) (message (at 1 e i) (at 2 e i)))
+    let p = v .pairs in
+    accepts 1 _ countWidth _ ps (message t n) (lit≤ tt) (lit< tt, (v .time, (v .serial, (omega arith, tt)))) (p .fit) (p .above-zero) (p .in-order)
+    (λ s e i. check s (widths messageRow) countWidth (more (at 3 e) (p .least-one) i) (λ qs. accepted (message (at 1 e i) (at 2 e i) qs)))
 shape-encode (tick t) v =
     accepts 2 _ 0 _ [] (λ _. tick t) (lit≤ tt) (lit< tt, (v, tt)) tt refl refl
-    (λ s e i. check s tickHead 0 0 (λ _. tick (at 1 e i)))
+    (λ s e i. check s (widths tickRow) 0 0 (λ _. accepted (tick (at 1 e i))))
 shape-encode (register t n k ps) v =
-    accepts 3 _ weightWidth _ ps (register t n k) (lit≤ tt) (lit< tt, (v .time, (v .number, (omega arith, (omega arith, tt))))) (v .terms .fit) (v .terms .above-zero) (v .terms .in-order)
-    (λ s e i. check s registerHead weightWidth (more (at 4 e) (v .terms .least-one) i) (register (at 1 e i) (at 2 e i) (more (at 3 e) (v .k-least) i)))
+    let p = v .terms in
+    accepts 3 _ weightWidth _ ps (register t n k) (lit≤ tt) (lit< tt, (v .time, (v .number, (omega arith, (omega arith, tt)))))
+    (p .fit) (p .above-zero) (p .in-order)
+    (λ s e i. check s (widths registerRow) weightWidth (more (at 4 e) (p .least-one) i)
+    (λ qs. accepted (register (at 1 e i) (at 2 e i) (more (at 3 e) (v .k-least) i) qs)))
 shape-encode (unregister t n) v =
     accepts 4 _ 0 _ [] (λ _. unregister t n) (lit≤ tt) (lit< tt, (v .0, (v .1, tt))) tt refl refl
-    (λ s e i. check s unregisterHead 0 0 (λ _. unregister (at 1 e i) (at 2 e i)))
+    (λ s e i. check s (widths unregisterRow) 0 0 (λ _. accepted (unregister (at 1 e i) (at 2 e i))))
 
 -- no frame is longer than a message of as many pairs as one can have
-pub encode-most : (f : Frame) → Valid f → length (encode f) ≤ bytesFor (bitsOf messageHead countWidth mostPairs)
+pub encode-most : (f : Frame) → Valid f → length (encode f) ≤ bytesFor (bitsOf (widths messageRow) countWidth mostPairs)
 unfolding encode total
-encode-most (message t s ps) v = let m = v .pairs .at-most in omega (arith, encode-length messageHead countWidth (1 ∷ t ∷ s ∷ (length ps - 1) ∷ []) ps)
-encode-most (tick t) v = omega (arith, encode-length tickHead 0 (2 ∷ t ∷ []) [])
+encode-most (message t s ps) v = let m = v .pairs .at-most in omega (arith, encode-length (widths messageRow) countWidth (1 ∷ t ∷ s ∷ (length ps - 1) ∷ []) ps)
+encode-most (tick t) v = omega (arith, encode-length (widths tickRow) 0 (2 ∷ t ∷ []) [])
 encode-most (register t n k ps) v =
-    let m = v .terms .at-most in omega (arith, encode-length registerHead weightWidth (3 ∷ t ∷ n ∷ (k - 1) ∷ (length ps - 1) ∷ []) ps)
-encode-most (unregister t n) v = omega (arith, encode-length unregisterHead 0 (4 ∷ t ∷ n ∷ []) [])
+    let m = v .terms .at-most in omega (arith, encode-length (widths registerRow) weightWidth (3 ∷ t ∷ n ∷ (k - 1) ∷ (length ps - 1) ∷ []) ps)
+encode-most (unregister t n) v = omega (arith, encode-length (widths unregisterRow) 0 (4 ∷ t ∷ n ∷ []) [])

@@ -1,27 +1,27 @@
 -- The laws of the writer's definition: what it accepts is a valid frame, every valid frame comes from its fields, and a refusal's number is 2 to 6.
 -- Assumes nothing.
-use mathlib.Core.Path.{_≡_, refl, ap, subst}
-use Prim.Native.Nat.{ℕ, zero, suc, _^_, _≤_, _<_}
-use native.Mathlib.Nat.{not-suc-le-zero}
+use mathlib.Core.Path.{_≡_, refl, sym, ap, subst}
+use Prim.Native.Nat.{ℕ, zero, suc, _+_, _-_, _^_, _≤_, _<_}
+use native.Mathlib.Nat.{not-suc-le-zero, add-sub-cancel}
 use native.Mathlib.Omega.{arith}
 use mathlib.Core.Bool.{Bool, true, false, _&&_}
 use mathlib.Core.List.{List, [], _∷_, map}
 use lib.ListN.{length, length-map}
-use lib.Dec.{eqb, ltb, lit≤}
+use lib.Dec.{ltb, lit≤}
 use borrow.Author.Tests.{ltb-true, leb-true, lt-ltb, le-leb}
-use Rattle.paper.specs.Frame.{Pair, Frame, Pairs, AllFit, Valid, countWidth, weightWidth, mostPairs, mostTerms, encode, shape, positive, rises, rising}
+use Rattle.paper.specs.Frame.{Pair, Frame, Fields, Row, Pairs, AllFit, Valid, noRow, rowOf, messageRow, tickRow, registerRow, unregisterRow, frameOf, judged, writtenBy, countWidth, weightWidth, mostPairs, mostTerms, encode, shape, positive, rises, rising}
 use Rattle.paper.specs.Frame.Frame.{message, tick, register, unregister}
 use Rattle.paper.specs.Frame.Shape.{refused, accepted}
-use Rattle.paper.specs.Write.{Fields, side-by-side, allWithin, pairsWithin, messageWithin, registerWithin, judged, pairsOf, fromFields, fieldsFor, fieldsOf}
-use Rattle.paper.proofs.FrameLaws.{by-test, or-refused, Judged, shape-encode}
+use Rattle.paper.specs.Write.{side-by-side, allWithin, headWithin, valueOf, pairsTaken, pairsWithin, pairsOf, pairsIn, fromKind, fromFields, fieldsWith, fieldsOf}
+use Rattle.paper.proofs.FrameLaws.{or-refused, Judged, by-kind, shape-encode}
 
 -- ---- tests
 
-and-left : (a b : Bool) → (a && b) ≡ true → a ≡ true
+pub and-left : (a b : Bool) → (a && b) ≡ true → a ≡ true
 and-left true b e = refl
 and-left false b e = e
 
-and-right : (a b : Bool) → (a && b) ≡ true → b ≡ true
+pub and-right : (a b : Bool) → (a && b) ≡ true → b ≡ true
 and-right true b e = e
 and-right false b e = let z : _≡_ {A = ℕ} 0 1 = cc in absurd (omega arith)
 
@@ -58,34 +58,52 @@ fit-within w (p ∷ ps) h e =
     let z : ltb 0 (p .amount) ≡ true = search facts in
     search tests
 
-pairs-within : (w most : ℕ) (x : Fields) → pairsWithin w most x ≡ true → rising (pairsOf x) ≡ true → Pairs w most (pairsOf x)
-pairs-within w most x e o =
-    let t : x .pairs ≤ length (x .terms) = search facts in
-    let a : x .pairs ≤ length (x .amounts) = search facts in
-    let l : 0 < x .pairs = search facts in
-    let m : x .pairs ≤ most = search facts in
-    let f = within-fit w (pairsOf x) (search facts) in
-    let n : length (pairsOf x) ≡ x .pairs = length-side (x .pairs) (x .terms) (x .amounts) t a in
+-- pairs that are as many as is said and within their range
+pairs-within : (w most n : ℕ) (ts us : List ℕ) → 0 < n → n ≤ most → n ≤ length ts → n ≤ length us
+    → allWithin w (side-by-side n ts us) ≡ true → rising (side-by-side n ts us) ≡ true → Pairs w most (side-by-side n ts us)
+pairs-within w most n ts us l m t a e o =
+    let f = within-fit w (side-by-side n ts us) e in
+    let k : length (side-by-side n ts us) ≡ n = length-side n ts us t a in
     record { least-one = omega arith; at-most = omega arith; fit = f .0; above-zero = f .1; in-order = o }
 
 -- ---- what is accepted
 
-judged-sound : (t : Bool) (ps : List Pair) (f : Frame) → (t ≡ true → rising ps ≡ true → Valid f) → Judged 2 Valid (judged t ps f)
+judged-sound : (t : Bool) (ps : List Pair) (f : Frame) → (t ≡ true → rising ps ≡ true → Valid f) → Judged 2 Valid (judged t ps (accepted f))
 judged-sound t ps f h =
     or-refused (Judged 2 Valid) t (lit≤ tt, lit≤ tt) (λ e. or-refused (Judged 2 Valid) (rising ps) (lit≤ tt, lit≤ tt) (h e))
 
+pub unknown-kind : (x : Fields) (k : ℕ) → rowOf k ≡ noRow → fromKind k x ≡ refused 2
+unfolding fromKind
+unknown-kind x k e = rw e
+
+kind-sound : (x : Fields) (k : ℕ) → Judged 2 Valid (fromKind k x)
+unfolding fromKind rowOf frameOf headWithin
+kind-sound x =
+    let m = x .pairs in
+    let ts = x .terms in
+    let us = x .amounts in
+    by-kind (λ k. Judged 2 Valid (fromKind k x))
+    (judged-sound (headWithin (messageRow .head) x && pairsWithin messageRow x) (side-by-side m ts us) (message (x .time) (x .serial) (side-by-side m ts us)) (λ e o. record {
+      time = search facts;
+      serial = search facts;
+      pairs = pairs-within countWidth mostPairs m ts us (search facts) (search facts) (search facts) (search facts) (search facts) o;
+    }))
+    (judged-sound (headWithin (tickRow .head) x && pairsWithin tickRow x) (side-by-side 0 ts us) (tick (x .time)) (λ e _. search facts))
+    (judged-sound (headWithin (registerRow .head) x && pairsWithin registerRow x) (side-by-side m ts us) (register (x .time) (x .number) (x .k - 1 + 1) (side-by-side m ts us)) (λ e o.
+    let l : 0 < x .k = search facts in
+    let u : x .k ≤ 2 ^ 4 = search facts in
+    record {
+      time = search facts;
+      number = search facts;
+      k-least = omega arith;
+      k-most = omega arith;
+      terms = pairs-within weightWidth mostTerms m ts us (search facts) (search facts) (search facts) (search facts) (search facts) o;
+    }))
+    (judged-sound (headWithin (unregisterRow .head) x && pairsWithin unregisterRow x) (side-by-side 0 ts us) (unregister (x .time) (x .number)) (λ e _. (search facts, search facts)))
+    (λ k none. rw (unknown-kind x k none) (lit≤ tt, lit≤ tt))
+
 fields-sound : (x : Fields) → Judged 2 Valid (fromFields x)
-unfolding fromFields
-fields-sound x =
-    by-test (Judged 2 Valid) (eqb (x .kind) 1)
-    (λ _. judged-sound (messageWithin x) (pairsOf x) (message (x .time) (x .serial) (pairsOf x)) (λ e o. record { time = search facts; serial = search facts; pairs = pairs-within countWidth mostPairs x (search facts) o }))
-    (λ _. by-test (Judged 2 Valid) (eqb (x .kind) 2)
-    (λ _. judged-sound (ltb (x .time) (2 ^ 32)) [] (tick (x .time)) (λ e _. search facts))
-    (λ _. by-test (Judged 2 Valid) (eqb (x .kind) 3)
-    (λ _. judged-sound (registerWithin x) (pairsOf x) (register (x .time) (x .number) (x .k) (pairsOf x)) (λ e o. record { time = search facts; number = search facts; k-least = search facts; k-most = search facts; terms = pairs-within weightWidth mostTerms x (search facts) o }))
-    (λ _. by-test (Judged 2 Valid) (eqb (x .kind) 4)
-    (λ _. judged-sound (ltb (x .time) (2 ^ 32) && ltb (x .number) (2 ^ 5)) [] (unregister (x .time) (x .number)) (λ e _. (search facts, search facts)))
-    (λ _. (lit≤ tt, lit≤ tt)))))
+fields-sound x = kind-sound x (x .kind)
 
 pub fields-valid : (x : Fields) (f : Frame) → fromFields x ≡ accepted f → Valid f
 fields-valid x f e = subst (Judged 2 Valid) e (fields-sound x)
@@ -97,6 +115,35 @@ fields-number x r e = subst (Judged 2 Valid) e (fields-sound x)
 pub fields-read : (x : Fields) (f : Frame) → fromFields x ≡ accepted f → shape (encode f) ≡ accepted f
 fields-read x f e = shape-encode f (fields-valid x f e)
 
+-- ---- the bytes that fields make
+
+-- the frame that is made of x's fields and pairs, and its bytes by its row
+pub record Made (x : Fields) (k : ℕ) : Type 0 where
+  pub frame : Frame
+  pub is : frameOf k (map (valueOf x) (rowOf k .head)) (pairsOf (rowOf k) x) ≡ accepted frame
+  pub spelled : encode frame ≡ writtenBy (rowOf k) (k ∷ map (valueOf x) (rowOf k .head)) (pairsOf (rowOf k) x)
+
+pub made : (x : Fields) (k : ℕ) → 0 < length (rowOf k .head) → length (pairsOf (rowOf k) x) ≡ pairsTaken (rowOf k) x → Made x k
+unfolding rowOf frameOf encode side-by-side
+made x =
+    by-kind (λ k. 0 < length (rowOf k .head) → length (pairsOf (rowOf k) x) ≡ pairsTaken (rowOf k) x → Made x k)
+    (λ _ n. record { frame = message (x .time) (x .serial) (pairsOf messageRow x); is = refl; spelled = rw n })
+    (λ _ n. record { frame = tick (x .time); is = refl; spelled = refl })
+    (λ _ n. record { frame = register (x .time) (x .number) (x .k - 1 + 1) (pairsOf registerRow x); is = refl; spelled = rw (n, add-sub-cancel (x .k - 1) 1) })
+    (λ _ n. record { frame = unregister (x .time) (x .number); is = refl; spelled = refl })
+    (λ k none h. let z : 0 < length (noRow .head) = subst (λ (row : Row). 0 < length (row .head)) none h in absurd (omega arith))
+
+-- fields in range take no more pairs than a message can have
+pub taken-most : (x : Fields) (k : ℕ) → headWithin (rowOf k .head) x ≡ true → pairsTaken (rowOf k) x ≤ mostPairs
+unfolding rowOf headWithin
+taken-most x =
+    by-kind (λ k. headWithin (rowOf k .head) x ≡ true → pairsTaken (rowOf k) x ≤ mostPairs)
+    (λ e. search facts)
+    (λ _. lit≤ tt)
+    (λ e. let h : x .pairs ≤ 2 ^ 3 = search facts in omega arith)
+    (λ _. lit≤ tt)
+    (λ k none _. subst (λ (row : Row). pairsTaken row x ≤ mostPairs) (sym none) (lit≤ tt))
+
 -- ---- the other way
 
 side-of : (ps : List Pair) → side-by-side (length ps) (map (λ p. p .term) ps) (map (λ p. p .amount) ps) ≡ ps
@@ -104,20 +151,56 @@ unfolding side-by-side
 side-of [] = refl
 side-of (p ∷ ps) = ap (λ (qs : List Pair). p ∷ qs) (side-of ps)
 
-pairs-of : (w most kind t s n k : ℕ) (ps : List Pair) → Pairs w most ps → pairsWithin w most (fieldsFor kind t s n k ps) ≡ true
-pairs-of w most kind t s n k ps v =
-    let lt : length ps ≤ length (map (λ p. p .term) ps) = omega (arith, length-map ps (λ p. p .term)) in
-    let la : length ps ≤ length (map (λ p. p .amount) ps) = omega (arith, length-map ps (λ p. p .amount)) in
-    let r : allWithin w (side-by-side (length ps) (map (λ p. p .term) ps) (map (λ p. p .amount) ps)) ≡ true = rw (side-of ps) (fit-within w ps (v .fit) (v .above-zero)) in
-    search tests
+-- pairs that are the first places of two lists
+pub record Beside (ts us : List ℕ) (ps : List Pair) : Type 0 where
+  pub terms : length ps ≤ length ts
+  pub amounts : length ps ≤ length us
+  pub are : side-by-side (length ps) ts us ≡ ps
+
+-- a valid frame comes from its fields, whatever stands in the lists past its pairs
+pub fields-with : (f : Frame) (ts us : List ℕ) → Valid f → Beside ts us (pairsIn f) → fromFields (fieldsWith f ts us) ≡ accepted f
+unfolding fromKind rowOf frameOf headWithin rises allWithin side-by-side
+fields-with (message t s ps) ts us v b =
+    let p = v .pairs in
+    let m : ℕ = length ps in
+    rw (
+      lt-ltb t (2 ^ 32) (v .time),
+      lt-ltb s (2 ^ 20) (v .serial),
+      lt-ltb 0 m (p .least-one),
+      le-leb m mostPairs (p .at-most),
+      le-leb m (length ts) (b .terms),
+      le-leb m (length us) (b .amounts),
+      b .are,
+      fit-within countWidth ps (p .fit) (p .above-zero),
+      p .in-order,
+    )
+fields-with (tick t) ts us v b = rw (lt-ltb t (2 ^ 32) v, le-leb 0 (length ts) (b .terms), le-leb 0 (length us) (b .amounts))
+fields-with (register t n k ps) ts us v b =
+    let p = v .terms in
+    let m : ℕ = length ps in
+    let e : k - 1 + 1 ≡ k = let h = v .k-least in omega arith in
+    rw (
+      lt-ltb t (2 ^ 32) (v .time),
+      lt-ltb n (2 ^ 5) (v .number),
+      lt-ltb 0 k (v .k-least),
+      le-leb k (2 ^ 4) (v .k-most),
+      lt-ltb 0 m (p .least-one),
+      le-leb m mostTerms (p .at-most),
+      le-leb m (length ts) (b .terms),
+      le-leb m (length us) (b .amounts),
+      b .are,
+      fit-within weightWidth ps (p .fit) (p .above-zero),
+      p .in-order,
+      e,
+    )
+fields-with (unregister t n) ts us v b =
+    rw (lt-ltb t (2 ^ 32) (v .0), lt-ltb n (2 ^ 5) (v .1), le-leb 0 (length ts) (b .terms), le-leb 0 (length us) (b .amounts))
 
 pub fields-of : (f : Frame) → Valid f → fromFields (fieldsOf f) ≡ accepted f
-unfolding fromFields rises
-fields-of (message t s ps) v =
-    let w : messageWithin (fieldsOf (message t s ps)) ≡ true = search (tests, pairs-of countWidth mostPairs 1 t s 0 0 ps (v .pairs)) in
-    rw (w, side-of ps, v .pairs .in-order)
-fields-of (tick t) v = rw (lt-ltb t (2 ^ 32) v)
-fields-of (register t n k ps) v =
-    let w : registerWithin (fieldsOf (register t n k ps)) ≡ true = search (tests, pairs-of weightWidth mostTerms 3 t 0 n k ps (v .terms)) in
-    rw (w, side-of ps, v .terms .in-order)
-fields-of (unregister t n) v = rw (lt-ltb t (2 ^ 32) (v .0), lt-ltb n (2 ^ 5) (v .1))
+fields-of f v =
+    let ps = pairsIn f in
+    fields-with f _ _ v (record {
+      terms = omega (arith, length-map ps (λ p. p .term));
+      amounts = omega (arith, length-map ps (λ p. p .amount));
+      are = side-of ps;
+    })

@@ -3,11 +3,11 @@
 use Prim.Native.Nat.{ℕ, zero, suc, _+_, _-_, _*_, _/_, _^_, _≤_, _<_}
 use mathlib.Core.Path.{_≡_}
 use mathlib.Core.Bool.{Bool, true, cond, _&&_}
-use mathlib.Core.List.{List, [], _∷_, _++_}
-use lib.ListN.{length}
+use mathlib.Core.List.{List, [], _∷_, _++_, map}
+use lib.ListN.{length, getD}
 use lib.Dec.{eqb, leb, ltb}
 use Rattle.wire.specs.Bits.{pack}
-use Rattle.wire.specs.Field.{field, total, spell}
+use Rattle.wire.specs.Field.{field, total, spell, scan}
 
 -- A term with its count in a message, or with its weight in a query.
 pub record Pair : Type 0 where
@@ -21,7 +21,21 @@ pub data Frame : Type 0 where
   register : (time number k : ℕ) → List Pair → Frame
   unregister : (time number : ℕ) → Frame
 
--- ---- the table: the widths of a kind's fields before its pairs, and of a pair
+-- What a caller of the writer may hand over: any numbers; the first `pairs` places of both lists are the pairs.
+pub record Fields : Type 0 where
+  pub kind : ℕ
+  pub time : ℕ
+  pub serial : ℕ
+  pub number : ℕ
+  pub k : ℕ
+  pub pairs : ℕ
+  pub terms : List ℕ
+  pub amounts : List ℕ
+
+-- ---- the widths of fields that have a name elsewhere too
+
+abbrev pub kindWidth : ℕ
+kindWidth = 4
 
 abbrev pub timeWidth : ℕ
 timeWidth = 32
@@ -32,18 +46,6 @@ serialWidth = 20
 abbrev pub numberWidth : ℕ
 numberWidth = 5
 
-abbrev pub messageHead : List ℕ
-messageHead = 4 ∷ timeWidth ∷ serialWidth ∷ 4 ∷ []
-
-abbrev pub tickHead : List ℕ
-tickHead = 4 ∷ timeWidth ∷ []
-
-abbrev pub registerHead : List ℕ
-registerHead = 4 ∷ timeWidth ∷ numberWidth ∷ 4 ∷ 3 ∷ []
-
-abbrev pub unregisterHead : List ℕ
-unregisterHead = 4 ∷ timeWidth ∷ numberWidth ∷ []
-
 abbrev pub termWidth : ℕ
 termWidth = 10
 
@@ -52,6 +54,61 @@ countWidth = 8
 
 abbrev pub weightWidth : ℕ
 weightWidth = 4
+
+-- ---- the table
+
+-- A field before the pairs: which number it holds, and its width. "less one" is written one less than the number, which is then 1 or more.
+pub data Field : Type 0 where
+  plain : (Fields → ℕ) → ℕ → Field
+  lessOne : (Fields → ℕ) → ℕ → Field
+
+abbrev pub width : Field → ℕ
+width (plain of w) = w
+width (lessOne of w) = w
+
+-- A kind's row: its fields after the kind and before the pairs, and the width of a pair's count or weight, 0 where the kind has no pairs. Where it
+-- has, the last field is their number.
+pub record Row : Type 0 where
+  pub head : List Field
+  pub amount : ℕ
+
+-- the field after the kind of every frame
+abbrev pub time : Field
+time = plain (λ f. f .time) timeWidth
+
+abbrev pub messageRow : Row
+messageRow = record {
+  head = time ∷ plain (λ f. f .serial) serialWidth ∷ lessOne (λ f. f .pairs) 4 ∷ [];
+  amount = countWidth;
+}
+
+abbrev pub tickRow : Row
+tickRow = record { head = time ∷ []; amount = 0 }
+
+abbrev pub registerRow : Row
+registerRow = record {
+  head = time ∷ plain (λ f. f .number) numberWidth ∷ lessOne (λ f. f .k) 4 ∷ lessOne (λ f. f .pairs) 3 ∷ [];
+  amount = weightWidth;
+}
+
+abbrev pub unregisterRow : Row
+unregisterRow = record { head = time ∷ plain (λ f. f .number) numberWidth ∷ []; amount = 0 }
+
+abbrev pub noRow : Row
+noRow = record { head = []; amount = 0 }
+
+-- the row of a kind. A new kind is one more row here, one more case of `frameOf` and of `encode`.
+unfoldable pub rowOf : ℕ → Row
+rowOf kind =
+    cond (eqb kind 1) messageRow
+    (cond (eqb kind 2) tickRow
+    (cond (eqb kind 3) registerRow
+    (cond (eqb kind 4) unregisterRow
+    noRow)))
+
+-- whether a kind has a row
+abbrev pub known : Row → Bool
+known row = ltb 0 (length (row .head))
 
 -- the most pairs of a message, terms of a query and entries of a list: what their fields can say
 abbrev pub mostPairs : ℕ
@@ -67,6 +124,12 @@ mostListed = 16
 abbrev pub numbers : ℕ
 numbers = 2 ^ numberWidth
 
+-- ---- the sizes, by the widths
+
+-- of all fields before the pairs, the kind with them
+abbrev pub widths : Row → List ℕ
+widths row = kindWidth ∷ map width (row .head)
+
 -- m pairs, whose count or weight has w bits
 unfoldable pub pairWidths : ℕ → ℕ → List ℕ
 pairWidths w zero = []
@@ -76,7 +139,7 @@ unfoldable pub pairValues : List Pair → List ℕ
 pairValues [] = []
 pairValues (p ∷ ps) = p .term ∷ p .amount ∷ pairValues ps
 
--- "Bits: message 60 + 18m, tick 36, register 48 + 14n, drop 41"
+-- "Bits: message 60 + 18m, tick 36, register 48 + 14n, drop 41": fields of these widths, and m pairs
 abbrev pub bitsOf : List ℕ → ℕ → ℕ → ℕ
 bitsOf head w m = total head + m * (termWidth + w)
 
@@ -97,11 +160,14 @@ written head w values pairs =
     (head ++ (pairWidths w (length pairs) ++ (fillAfter (bitsOf head w (length pairs)) ∷ [])))
     (values ++ (pairValues pairs ++ (0 ∷ []))))
 
+abbrev pub writtenBy : Row → List ℕ → List Pair → List ℕ
+writtenBy row values pairs = written (widths row) (row .amount) values pairs
+
 unfoldable pub encode : Frame → List ℕ
-encode (message t s ps) = written messageHead countWidth (1 ∷ t ∷ s ∷ (length ps - 1) ∷ []) ps
-encode (tick t) = written tickHead 0 (2 ∷ t ∷ []) []
-encode (register t n k ps) = written registerHead weightWidth (3 ∷ t ∷ n ∷ (k - 1) ∷ (length ps - 1) ∷ []) ps
-encode (unregister t n) = written unregisterHead 0 (4 ∷ t ∷ n ∷ []) []
+encode (message t s ps) = writtenBy messageRow (1 ∷ t ∷ s ∷ (length ps - 1) ∷ []) ps
+encode (tick t) = writtenBy tickRow (2 ∷ t ∷ []) []
+encode (register t n k ps) = writtenBy registerRow (3 ∷ t ∷ n ∷ (k - 1) ∷ (length ps - 1) ∷ []) ps
+encode (unregister t n) = writtenBy unregisterRow (4 ∷ t ∷ n ∷ []) []
 
 -- ---- what a list of bytes is
 
@@ -109,6 +175,24 @@ encode (unregister t n) = written unregisterHead 0 (4 ∷ t ∷ n ∷ []) []
 pub data Shape : Type 0 where
   refused : ℕ → Shape
   accepted : Frame → Shape
+
+-- the frame of a kind, made of the values of its fields after the kind, and of its pairs
+unfoldable pub frameOf : ℕ → List ℕ → List Pair → Shape
+frameOf kind values pairs =
+    let at : ℕ → ℕ = λ i. getD values i 0 in
+    cond (eqb kind 1) (accepted (message (at 0) (at 1) pairs))
+    (cond (eqb kind 2) (accepted (tick (at 0)))
+    (cond (eqb kind 3) (accepted (register (at 0) (at 1) (at 2 + 1) pairs))
+    (cond (eqb kind 4) (accepted (unregister (at 0) (at 1)))
+    (refused 2))))
+
+-- the values of the fields after the kind, one after the other
+abbrev pub valuesAt : List ℕ → Row → List ℕ
+valuesAt s row = scan s kindWidth (map width (row .head))
+
+-- how many pairs these values say: the last of them says one less
+abbrev pub pairsBy : Row → List ℕ → ℕ
+pairsBy row values = cond (eqb (row .amount) 0) 0 (getD values (length (row .head) - 1) 0 + 1)
 
 -- the m pairs from bit `at`
 unfoldable pub pairsAt : List ℕ → ℕ → ℕ → ℕ → List Pair
@@ -129,39 +213,30 @@ rises least (p ∷ ps) = leb least (p .term) && rises (suc (p .term)) ps
 abbrev pub rising : List Pair → Bool
 rising ps = rises 0 ps
 
--- 5, then 6, or the frame
-abbrev pub checkPairs : List Pair → Frame → Shape
-checkPairs ps f = cond (positive ps) (cond (rising ps) (accepted f) (refused 6)) (refused 5)
+-- 5, then 6, or what is made of the pairs
+abbrev pub judged : Bool → List Pair → Shape → Shape
+judged sound ps made = cond sound (cond (rising ps) made (refused 6)) (refused 5)
 
--- 3, then 4, then the pairs, of a frame with these fields before its m pairs. No message has fewer than 10 bytes and no registration fewer than
--- 8, so one that ends before its number of pairs is 3 whatever is read for that number.
-unfoldable pub check : List ℕ → List ℕ → ℕ → ℕ → (List Pair → Frame) → Shape
+-- 3, then 4, then the pairs, of a frame with fields of these widths before its m pairs. No message has fewer than 10 bytes and no registration fewer
+-- than 8, so one that ends before its number of pairs is 3 whatever is read for that number.
+unfoldable pub check : List ℕ → List ℕ → ℕ → ℕ → (List Pair → Shape) → Shape
 check s head w m make =
     cond (eqb (length s) (bytesFor (bitsOf head w m)))
     (cond (eqb (field s (bitsOf head w m) (fillAfter (bitsOf head w m))) 0)
-    (checkPairs (pairsAt s (total head) w m) (make (pairsAt s (total head) w m)))
+    (judged (positive (pairsAt s (total head) w m)) (pairsAt s (total head) w m) (make (pairsAt s (total head) w m)))
     (refused 4))
     (refused 3)
 
-abbrev pub timeOfBytes : List ℕ → ℕ
-timeOfBytes s = field s 4 timeWidth
-
--- 2, or the rest by the kind
+-- 2 for a kind without a row, or the rest by its row
 unfoldable pub shapeOfKind : ℕ → List ℕ → Shape
 shapeOfKind kind s =
-    cond (eqb kind 1)
-    (check s messageHead countWidth (field s 56 4 + 1) (message (timeOfBytes s) (field s 36 serialWidth)))
-    (cond (eqb kind 2)
-    (check s tickHead 0 0 (λ _. tick (timeOfBytes s)))
-    (cond (eqb kind 3)
-    (check s registerHead weightWidth (field s 45 3 + 1) (register (timeOfBytes s) (field s 36 numberWidth) (field s 41 4 + 1)))
-    (cond (eqb kind 4)
-    (check s unregisterHead 0 0 (λ _. unregister (timeOfBytes s) (field s 36 numberWidth)))
-    (refused 2))))
+    let row = rowOf kind in
+    let values = valuesAt s row in
+    cond (known row) (check s (widths row) (row .amount) (pairsBy row values) (frameOf kind values)) (refused 2)
 
 -- the first of the refusals 1 to 6 that applies, or the frame
 unfoldable pub shape : List ℕ → Shape
-shape s = cond (ltb (length s) 5) (refused 1) (shapeOfKind (field s 0 4) s)
+shape s = cond (ltb (length s) 5) (refused 1) (shapeOfKind (field s 0 kindWidth) s)
 
 -- ---- the ranges of the table
 

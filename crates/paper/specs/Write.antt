@@ -1,25 +1,15 @@
 -- The writer: a frame from its fields, or the first of 2, 5, 6 and 12 that applies.
 -- Document 01: "The writer makes a frame from its fields, judges only the fields of that kind, and returns the frame's length in bytes."
 -- Assumes nothing.
-use Prim.Native.Nat.{ℕ, zero, suc, _^_}
+use Prim.Native.Nat.{ℕ, zero, suc, _-_, _^_}
 use mathlib.Core.Bool.{Bool, true, cond, _&&_}
 use mathlib.Core.List.{List, [], _∷_, map}
 use lib.ListN.{length}
 use lib.Dec.{eqb, leb, ltb}
-use Rattle.paper.specs.Frame.{Pair, Frame, Shape, encode, rising, termWidth, countWidth, weightWidth, mostPairs, mostTerms, timeWidth, serialWidth, numbers, mostListed}
+use Rattle.paper.specs.Frame.{Pair, Frame, Shape, encode, termWidth, timeWidth, serialWidth, numbers, mostListed, Fields, Field, Row, rowOf, known, frameOf, judged}
 use Rattle.paper.specs.Frame.Frame.{message, tick, register, unregister}
+use Rattle.paper.specs.Frame.Field.{plain, lessOne}
 use Rattle.paper.specs.Frame.Shape.{refused, accepted}
-
--- what a caller may hand over: any numbers; the first `pairs` places of both lists are the pairs
-pub record Fields : Type 0 where
-  pub kind : ℕ
-  pub time : ℕ
-  pub serial : ℕ
-  pub number : ℕ
-  pub k : ℕ
-  pub pairs : ℕ
-  pub terms : List ℕ
-  pub amounts : List ℕ
 
 -- the first n places of two lists, side by side
 unfoldable pub side-by-side : ℕ → List ℕ → List ℕ → List Pair
@@ -37,38 +27,42 @@ unfoldable pub allWithin : ℕ → List Pair → Bool
 allWithin w [] = true
 allWithin w (p ∷ ps) = ltb (p .term) (2 ^ termWidth) && (ltb 0 (p .amount) && ltb (p .amount) (2 ^ w)) && allWithin w ps
 
--- whether the number of pairs is within its range, both lists are as long, and each pair is within its range
-abbrev pub pairsWithin : ℕ → ℕ → Fields → Bool
-pairsWithin w most f =
-    within most (f .pairs) && leb (f .pairs) (length (f .terms)) && leb (f .pairs) (length (f .amounts))
-    && allWithin w (side-by-side (f .pairs) (f .terms) (f .amounts))
+-- a field's number is within its range, and what is written of it
+abbrev pub inRange : Field → Fields → Bool
+inRange (plain of w) f = ltb (of f) (2 ^ w)
+inRange (lessOne of w) f = within (2 ^ w) (of f)
 
--- whether every field of a message, of a registration, is within its range
-abbrev pub messageWithin : Fields → Bool
-messageWithin f = ltb (f .time) (2 ^ timeWidth) && ltb (f .serial) (2 ^ serialWidth) && pairsWithin countWidth mostPairs f
+abbrev pub valueOf : Fields → Field → ℕ
+valueOf f (plain of w) = of f
+valueOf f (lessOne of w) = of f - 1
 
-abbrev pub registerWithin : Fields → Bool
-registerWithin f = ltb (f .time) (2 ^ timeWidth) && ltb (f .number) numbers && within mostListed (f .k) && pairsWithin weightWidth mostTerms f
+-- whether every field before the pairs is within its range
+unfoldable pub headWithin : List Field → Fields → Bool
+headWithin [] f = true
+headWithin (x ∷ xs) f = inRange x f && headWithin xs f
 
--- 5, then 6, or the frame
-abbrev pub judged : Bool → List Pair → Frame → Shape
-judged inRange ps f = cond inRange (cond (rising ps) (accepted f) (refused 6)) (refused 5)
+-- how many pairs a kind takes, and which
+abbrev pub pairsTaken : Row → Fields → ℕ
+pairsTaken row f = cond (eqb (row .amount) 0) 0 (f .pairs)
 
-abbrev pub pairsOf : Fields → List Pair
-pairsOf f = side-by-side (f .pairs) (f .terms) (f .amounts)
+abbrev pub pairsOf : Row → Fields → List Pair
+pairsOf row f = side-by-side (pairsTaken row f) (f .terms) (f .amounts)
+
+-- whether both lists are as long as the number of pairs says, and each pair is within its range
+abbrev pub pairsWithin : Row → Fields → Bool
+pairsWithin row f =
+    leb (pairsTaken row f) (length (f .terms)) && leb (pairsTaken row f) (length (f .amounts)) && allWithin (row .amount) (pairsOf row f)
 
 -- 2, 5, 6, or the frame: only the fields of the kind are looked at
-unfoldable pub fromFields : Fields → Shape
-fromFields f =
-    cond (eqb (f .kind) 1)
-    (judged (messageWithin f) (pairsOf f) (message (f .time) (f .serial) (pairsOf f)))
-    (cond (eqb (f .kind) 2)
-    (judged (ltb (f .time) (2 ^ timeWidth)) [] (tick (f .time)))
-    (cond (eqb (f .kind) 3)
-    (judged (registerWithin f) (pairsOf f) (register (f .time) (f .number) (f .k) (pairsOf f)))
-    (cond (eqb (f .kind) 4)
-    (judged (ltb (f .time) (2 ^ timeWidth) && ltb (f .number) numbers) [] (unregister (f .time) (f .number)))
-    (refused 2))))
+unfoldable pub fromKind : ℕ → Fields → Shape
+fromKind kind f =
+    let row = rowOf kind in
+    cond (known row)
+    (judged (headWithin (row .head) f && pairsWithin row f) (pairsOf row f) (frameOf kind (map (valueOf f) (row .head)) (pairsOf row f)))
+    (refused 2)
+
+abbrev pub fromFields : Fields → Shape
+fromFields f = fromKind (f .kind) f
 
 -- the bytes to write, none where refused
 abbrev pub bytesOf : Shape → List ℕ
@@ -82,21 +76,23 @@ writeNumber room (accepted f) = cond (leb (length (encode f)) room) 0 12
 
 -- ---- the fields that make a frame, those of other kinds 0
 
-abbrev pub fieldsFor : (kind time serial number k : ℕ) → List Pair → Fields
-fieldsFor kind t s n k ps =
-    record {
-      kind = kind;
-      time = t;
-      serial = s;
-      number = n;
-      k = k;
-      pairs = length ps;
-      terms = map (λ p. p .term) ps;
-      amounts = map (λ p. p .amount) ps;
-    }
+abbrev pub fieldsFor : (kind time serial number k pairs : ℕ) → (terms amounts : List ℕ) → Fields
+fieldsFor kind t s n k m ts us =
+    record { kind = kind; time = t; serial = s; number = n; k = k; pairs = m; terms = ts; amounts = us }
+
+-- the fields of a frame whose pairs are the first places of two lists
+abbrev pub fieldsWith : Frame → List ℕ → List ℕ → Fields
+fieldsWith (message t s ps) ts us = fieldsFor 1 t s 0 0 (length ps) ts us
+fieldsWith (tick t) ts us = fieldsFor 2 t 0 0 0 0 ts us
+fieldsWith (register t n k ps) ts us = fieldsFor 3 t 0 n k (length ps) ts us
+fieldsWith (unregister t n) ts us = fieldsFor 4 t 0 n 0 0 ts us
+
+-- a frame's pairs, none where its kind has no such field
+abbrev pub pairsIn : Frame → List Pair
+pairsIn (message t s ps) = ps
+pairsIn (tick t) = []
+pairsIn (register t n k ps) = ps
+pairsIn (unregister t n) = []
 
 abbrev pub fieldsOf : Frame → Fields
-fieldsOf (message t s ps) = fieldsFor 1 t s 0 0 ps
-fieldsOf (tick t) = fieldsFor 2 t 0 0 0 []
-fieldsOf (register t n k ps) = fieldsFor 3 t 0 n k ps
-fieldsOf (unregister t n) = fieldsFor 4 t 0 n 0 []
+fieldsOf f = fieldsWith f (map (λ p. p .term) (pairsIn f)) (map (λ p. p .amount) (pairsIn f))

@@ -1,5 +1,5 @@
 -- `frame` meets its contract. Assumes nothing.
-use Rattle.engine.proofs.ReadLaws.{read-message, read-tick, read-register, read-eight, read-unregister, read-refused}
+use Rattle.engine.proofs.ReadLaws.{read-message, read-register, read-eight, read-unregister, read-as}
 use Rattle.engine.proofs.PostLaws.{not-lent, misshapen, done}
 use borrow.Author.Needs.{needs}
 use Rattle.engine.proofs.frame.Statement.{statement}
@@ -24,7 +24,7 @@ register-requires c κs =
 unregister-requires : tie.Need-unregister-requires
 unregister-requires c κs =
     let read = c .before .before .before .before .before .before .read in
-    (search needs, read-unregister (c .before .before .before .before .before .before .before .before .before .before .args .bytes .now) (read .result) (read .ensures) _ _ (c .before .before .what4 .given .1) .1)
+    (search needs, read-unregister (c .before .before .before .before .before .before .before .before .before .before .args .bytes .now) (read .result) (read .ensures) _ _ (c .before .before .what4 .given .1))
 
 returns-2 : tie.Need-returns-2
 returns-2 c =
@@ -35,7 +35,7 @@ returns-2 c =
 returns-3 : tie.Need-returns-3
 returns-3 c =
     let read = c .before .before .before .before .before .before .before .before .before .read in
-    let m = read-tick (c .before .before .before .before .before .before .before .before .before .before .before .before .before .args .bytes .now) (read .result) (read .ensures) _ (c .before .before .before .before .before .what2 .given .1) in
+    let m = read-as (c .before .before .before .before .before .before .before .before .before .before .before .before .before .args .bytes .now) (read .result) (read .ensures) _ (c .before .before .before .before .before .what2 .given .1) in
     done _ _ _ _ _ (search needs) (search needs) m (λ i. c .before .before .before .before .before .before .before .before .before .before .before .before .slice-known .given i .fits) (λ i. c .slice-known3 .given i .fits) (c .before .before .tick .ensures)
 
 returns-4 : tie.Need-returns-4
@@ -48,13 +48,13 @@ returns-4 c =
 returns-5 : tie.Need-returns-5
 returns-5 c =
     let read = c .before .before .before .before .before .before .before .before .before .read in
-    let m = read-unregister (c .before .before .before .before .before .before .before .before .before .before .before .before .before .args .bytes .now) (read .result) (read .ensures) _ _ (c .before .before .before .before .before .what4 .given .1) in
-    done _ _ _ _ _ (search needs) (search needs) (m .0) (λ i. c .before .before .before .before .before .before .before .before .before .before .before .before .slice-known .given i .fits) (λ i. c .slice-known5 .given i .fits) (c .before .before .unregister .ensures)
+    let m = read-as (c .before .before .before .before .before .before .before .before .before .before .before .before .before .args .bytes .now) (read .result) (read .ensures) _ (c .before .before .before .before .before .what4 .given .1) in
+    done _ _ _ _ _ (search needs) (search needs) m (λ i. c .before .before .before .before .before .before .before .before .before .before .before .before .slice-known .given i .fits) (λ i. c .slice-known5 .given i .fits) (c .before .before .unregister .ensures)
 
 returns-6 : tie.Need-returns-6
 returns-6 c =
     let read = c .before .before .before .before .before .before .read in
-    misshapen _ _ _ _ (search needs) (read-refused (c .before .before .before .before .before .before .before .before .before .before .args .bytes .now) (read .result) (read .ensures) _ (c .before .before .what5 .given .1)) (c .refused2 .ensures)
+    misshapen _ _ _ _ (search needs) (read-as (c .before .before .before .before .before .before .before .before .before .before .args .bytes .now) (read .result) (read .ensures) _ (c .before .before .what5 .given .1)) (c .refused2 .ensures)
 
 pub frame-spec : {M : Type 1} → statement M
 frame-spec =

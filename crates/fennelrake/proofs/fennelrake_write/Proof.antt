@@ -5,7 +5,7 @@ use lib.ListN.{length, take}
 use lib.Seq.{length-take-le}
 use denote.Ref.{now}
 use borrow.Author.Needs.{needs}
-use Rattle.paper.specs.Write.{Fields}
+use Rattle.paper.specs.Frame.{Fields}
 use Rattle.frame.specs.Write.{fields}
 use Rattle.fennelrake.specs.Entry.{termsOf}
 use Rattle.fennelrake.proofs.TermLaws.{length-terms, withTerms, written-most, write-heard}

@@ -26,12 +26,5 @@ returns-2 c =
 
 pub checked-pairs-spec : {M : Type 1} → statement M
 checked-pairs-spec =
-    tie.close
-    (tie.spec
-    (λ c. omega arith)
-    (λ c. omega arith)
-    (λ c. omega arith)
-    (λ c κs. omega arith)
-    returns
-    take-pairs-requires
+    tie.close (tie.spec (λ c. omega arith) (λ c. omega arith) (λ c. omega arith) (λ c κs. omega arith) returns take-pairs-requires
     returns-2)

@@ -2,41 +2,45 @@
 use Prim.Native.Nat.{ℕ, _-_, _^_, _≤_}
 use native.Mathlib.Omega.{arith}
 use native.Mathlib.Nat.{sub-zero}
-use mathlib.Core.Bool.{Bool, true}
+use mathlib.Core.Bool.{Bool}
 use mathlib.Core.Path.{_≡_, sym, ap, _∙_}
 use lib.ListN.{length, drop, getD}
-use borrow.Author.Tests.{not-true, not-false}
+use borrow.Author.Tests.{le-leb, lt-leb}
 use Rattle.wire.proofs.BitLaws.{one-shl}
 use Rattle.frame.specs.Read.{pairsNumber, judgeNext}
-use Rattle.frame.proofs.WriteLaws.{enough-true}
 use Rattle.paper.specs.Write.{side-by-side}
 use Rattle.frame.specs.Write.{soundPair, pairsVerdict}
-use Rattle.frame.proofs.PairLaws.{judgedFrom, judged-all, fitting, within-all, beside-turn, beside-none}
+use Rattle.frame.proofs.PairLaws.{judgedFrom, judged-all, inLimits, within-all, beside-turn, beside-none}
 use Rattle.frame.proofs.judge_pairs.Statement.{statement}
 use Rattle.frame.proofs.judge_pairs.Tie as tie
 
 abbrev Inv-loop : tie.InvT-loop
-Inv-loop width most pairs terms amounts limit number₀ floor₀ i₀ number floor i =
-    (i ≤ pairs) × (pairs ≤ length terms) × (pairs ≤ length amounts) × (judgedFrom (fitting width) number floor (side-by-side (pairs - i) (drop i terms) (drop i amounts)) ≡ pairsVerdict width most pairs terms amounts)
+Inv-loop width pairs terms amounts limit number₀ floor₀ i₀ number floor i =
+    (i ≤ pairs) × (pairs ≤ length terms) × (pairs ≤ length amounts) × (judgedFrom (inLimits width) number floor (side-by-side (pairs - i) (drop i terms) (drop i amounts)) ≡ pairsVerdict width pairs terms amounts)
 
 abbrev μ-loop : tie.MeasureT-loop
-μ-loop width most pairs terms amounts limit number₀ floor₀ i₀ number floor i = pairs - i
+μ-loop width pairs terms amounts limit number₀ floor₀ i₀ number floor i = pairs - i
 
 returns : tie.Need-returns Inv-loop μ-loop
 unfolding pairsVerdict pairsNumber
-returns c = rw (← c .before .enough-pairs .ensures, not-true (c .before .enough-pairs .result) (c .if1 .taken))
+returns c = let a = c .before .before .before .args in rw (lt-leb (a .pairs) (length (a .terms .now)) (omega arith))
+
+returns-2 : tie.Need-returns-2 Inv-loop μ-loop
+unfolding pairsVerdict pairsNumber
+returns-2 c =
+    let a = c .before .before .before .before .args in
+    rw (le-leb (a .pairs) (length (a .terms .now)) (omega arith), lt-leb (a .pairs) (length (a .amounts .now)) (omega arith))
 
 loop-holds : tie.Need-loop-holds Inv-loop μ-loop
 unfolding pairsVerdict
 loop-holds c =
     let a = c .before .before .before .before .args in
-    let ps = side-by-side (a .pairs) (a .terms .now) (a .amounts .now) in
-    let e : c .before .enough-pairs .result ≡ true = not-false _ (c .if1 .left) in
-    let h = enough-true (a .most) (a .pairs) (length (a .terms .now)) (length (a .amounts .now)) (sym (c .before .enough-pairs .ensures) ∙ e) in (
+    let ps = side-by-side (a .pairs) (a .terms .now) (a .amounts .now) in (
       omega arith,
-      h .2,
-      h .3,
-      rw (sub-zero (a .pairs), ← c .before .enough-pairs .ensures, e) (judged-all (fitting (a .width)) ps ∙ ap (λ (t : Bool). pairsNumber t ps) (within-all (a .width) ps)),
+      omega arith,
+      omega arith,
+      rw (sub-zero (a .pairs), le-leb (a .pairs) (length (a .terms .now)) (omega arith), le-leb (a .pairs) (length (a .amounts .now)) (omega arith))
+          (judged-all (inLimits (a .width)) ps ∙ ap (λ (t : Bool). pairsNumber t ps) (within-all (a .width) ps)),
     )
 
 cast-term : tie.Need-cast-term Inv-loop μ-loop
@@ -63,32 +67,14 @@ loop-again c =
       beside-turn (a .terms .now) (a .amounts .now) (a .width) (a .pairs) (l .i) (l .number) (l .floor) (c .judge .result) _ (omega arith) (omega arith) (omega arith) (l .inv .3) judged,
     )
 
-returns-2 : tie.Need-returns-2 Inv-loop μ-loop
-returns-2 c =
+returns-3 : tie.Need-returns-3 Inv-loop μ-loop
+returns-3 c =
     let l = c .before .loop in
     let a = c .before .before .before .before .before .before .args in
-    ap (judgedFrom (fitting (a .width)) (l .number) (l .floor)) (sym (beside-none (a .pairs - l .i) (drop (l .i) (a .terms .now)) (drop (l .i) (a .amounts .now)) (omega arith))) ∙ l .inv .3
+    ap (judgedFrom (inLimits (a .width)) (l .number) (l .floor)) (sym (beside-none (a .pairs - l .i) (drop (l .i) (a .terms .now)) (drop (l .i) (a .amounts .now)) (omega arith))) ∙ l .inv .3
 
 pub judge-pairs-spec : {M : Type 1} → statement M
 judge-pairs-spec =
-    tie.close
-    (tie.spec
-    Inv-loop
-    μ-loop
-    (λ c κs. tt)
-    returns
-    (λ c. omega arith)
-    (λ c. omega arith)
-    loop-holds
-    (λ c. omega arith)
-    (λ c. omega arith)
-    cast-term
-    (λ c. omega arith)
-    cast-sound-pair
-    (λ c κs. tt)
-    (λ c κs. tt)
-    add-floor
-    (λ c. omega arith)
-    (λ c. omega arith)
-    loop-again
-    returns-2)
+    tie.close (tie.spec Inv-loop μ-loop returns returns-2 (λ c. omega arith) (λ c. omega arith) loop-holds (λ c. omega arith)
+    (λ c. omega arith) cast-term (λ c. omega arith) cast-sound-pair (λ c κs. tt) (λ c κs. tt) add-floor (λ c. omega arith)
+    (λ c. omega arith) loop-again returns-3)

@@ -27,5 +27,4 @@ returns-3 c =
 
 pub misfit-spec : {M : Type 1} → statement M
 misfit-spec =
-    tie.close
-    (tie.spec (λ c. omega arith) returns (λ c. omega arith) (λ c. omega arith) (λ c κs. omega arith) returns-2 returns-3)
+    tie.close (tie.spec (λ c. omega arith) returns (λ c. omega arith) (λ c. omega arith) (λ c κs. omega arith) returns-2 returns-3)

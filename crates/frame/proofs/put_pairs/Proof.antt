@@ -74,23 +74,6 @@ returns c =
 
 pub put-pairs-spec : {M : Type 1} → statement M
 put-pairs-spec =
-    tie.close
-    (tie.spec
-    Inv-loop
-    μ-loop
-    loop-holds
-    (λ c. omega arith)
-    (λ c. omega arith)
-    cast-put-bits
-    put-bits-requires
-    add-put-bits
-    (λ c. omega arith)
-    cast-put-bits-2
-    put-bits-requires-2
-    (λ c. omega arith)
-    add-next-2
-    (λ c. omega arith)
-    (λ c. omega arith)
-    loop-again
-    (λ c. omega arith)
-    returns)
+    tie.close (tie.spec Inv-loop μ-loop loop-holds (λ c. omega arith) (λ c. omega arith) cast-put-bits put-bits-requires add-put-bits
+    (λ c. omega arith) cast-put-bits-2 put-bits-requires-2 (λ c. omega arith) add-next-2 (λ c. omega arith) (λ c. omega arith) loop-again
+    (λ c. omega arith) returns)

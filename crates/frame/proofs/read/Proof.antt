@@ -16,9 +16,4 @@ returns-2 c = rw (le-ltb (length (c .before .before .before .args .bytes .now)) 
 
 pub read-spec : {M : Type 1} → statement M
 read-spec =
-    tie.close
-    (tie.spec
-    (λ c κs. tt)
-    returns
-    (λ c κs. omega arith)
-    returns-2)
+    tie.close (tie.spec (λ c κs. tt) returns (λ c κs. omega arith) returns-2)

@@ -1,5 +1,9 @@
--- `frame::read_fields` meets its contract: a walk of its MIR, by hand. A reader is made of the slice; kind and time are taken from it in turn, and the slice and the bit where it then stands go to `read_kind`.
--- All that the proof knows of a callee is that it meets its contract, which says which reader comes back: the one over s that stands at bit 0, 4 and 36.
+-- `frame::read_fields` meets its contract: a walk of its MIR, by hand. A reader is made of the slice; the kind is taken from it, and the slice and the
+-- bit where the reader then stands go to `read_kind`. All that the proof knows of a callee is that it meets its contract, which says which reader comes
+-- back: the one over s that stands at bit 0 or 4.
+-- The stack, from its top: what a comment names, and then local 8 to local 0, two places each (the local's cell and its room):
+--   8 the bit, 7 the slice (both for read_kind); 6 and 5 the reader's copies for `after` and `take`; 4 the reader at bit 4; 3 the kind;
+--   2 the reader at bit 0; 1 bytes; 0 the result. So local i stands at 2 · (8 − i) behind what is named.
 -- Assumes nothing.
 use mathlib.Core.Path.{_≡_, refl, ap, subst}
 use Prim.Native.Nat.{ℕ, _+_, _*_, _≤_, _<_, _^_}
@@ -43,7 +47,7 @@ use denote.Triple.Clauses.{Clauses, lasts}
 use Rattle.wire.specs.Field.{field}
 use Rattle.wire.specs.declared.BitReader.{BitReader}
 use Rattle.paper.specs.Frame.{shapeOfKind}
-use Rattle.frame.specs.Read.{ReadPost, Started}
+use Rattle.frame.specs.Read.{ReadPost}
 use Rattle.frame.specs.declared.Parsed.{Parsed}
 use Rattle.wire.proofs.Answer.{answers}
 use Rattle.wire.proofs.BitReader as T
@@ -150,16 +154,16 @@ module _ {M : Type 1} (𝓤 : URA M) (H : Heap 𝓤) (A : Atoms 𝓤) (W : Given
     abbrev to-after : After 𝓤 H A mem run .Ghost
     to-after = (((κ, tt), (q, tt), tt, (stands n, (w, tt)), at-width), tt)
 
-  -- the call of `read_kind`, with the kind k and the time t, whose machine values are x and y
-  module _ (k t : ℕ) (x y : Val) (is-k : Is u32 k (x ∷ [])) (is-t : Is u32 t (y ∷ [])) where
+  -- the call of `read_kind`, with the kind k, whose machine value is x
+  module _ (k : ℕ) (x : Val) (is-k : Is u32 k (x ∷ [])) where
     abbrev to-kind : ReadKind 𝓤 H A mem run .Ghost
-    to-kind = (((κ, tt), (q, tt), tt, (s, (36, (k, (t, tt)))), (v ∷ [], (vint w64 36 ∷ [], (x ∷ [], (y ∷ [], tt))))), tt)
+    to-kind = (((κ, tt), (q, tt), tt, (s, (4, (k, tt))), (v ∷ [], (vint w64 4 ∷ [], (x ∷ [], tt)))), tt)
 
-    goes-kind : Started (now s) 36 t → ent 𝓤 (⋆ 𝓤 H A ((‵ (flft κ q) ⊛ ‵ ftrue) ∷ ‵ Own ∷ [])) (ReadKind 𝓤 H A mem run .pre to-kind)
-    goes-kind h =
-        qed W ((‵ (flft κ q) ⊛ ‵ ftrue) ∷ ‵ Own ∷ []) ∵ says ! h $ frame ! $
-        nothing ! $ owned ! u32 (Is u32) (uint-makes 𝓤 H A W w32) t _ is-t $ fjoin ! $ owned ! u32 (Is u32) (uint-makes 𝓤 H A W w32) k _ is-k $ fjoin ! $
-        owned ! usize (Is usize) (uint-makes 𝓤 H A W w64) 36 _ (refl, lit< tt) $ fjoin ! $ move ! (1 ∷ 0 ∷ []) $ fjoin ! $ done !
+    goes-kind : ent 𝓤 (⋆ 𝓤 H A ((‵ (flft κ q) ⊛ ‵ ftrue) ∷ ‵ Own ∷ [])) (ReadKind 𝓤 H A mem run .pre to-kind)
+    goes-kind =
+        qed W ((‵ (flft κ q) ⊛ ‵ ftrue) ∷ ‵ Own ∷ []) ∵ says ! refl $ frame ! $ nothing ! $
+        owned ! u32 (Is u32) (uint-makes 𝓤 H A W w32) k _ is-k $ fjoin ! $
+        owned ! usize (Is usize) (uint-makes 𝓤 H A W w64) 4 _ (refl, lit< tt) $ fjoin ! $ move ! (1 ∷ 0 ∷ []) $ fjoin ! $ done !
 
   exits : (r : Parsed) (u : Val) → ReadPost (shapeOfKind (field (now s) 0 4) (now s)) r → ent 𝓤 (⋆ 𝓤 H A (‵ (S.the-row .own r (u ∷ [])) ∷ (‵ (flft κ q) ⊛ ‵ ftrue) ∷ ‵ Own ∷ [])) (Post u)
   exits r u e =
@@ -188,40 +192,44 @@ module _ {M : Type 1} (𝓤 : URA M) (H : Heap 𝓤) (A : Atoms 𝓤) (W : Given
           calls-at t fm (After 𝓤 H A mem run) known-after (to-after n w fits u) os (λ x.
           arrives t tt (n + w) x (lasts after.ended (κ, tt) (stands n, (w, tt))) (k x))
 
-    walk : Is (ShrSlice (named 0) κ u8) s (v ∷ []) → ent 𝓤 (onEntry 𝓤 H A read-fields.signature (κ, tt) (q, tt) (s, tt) (v ∷ [], tt)) (WpFn 𝓤 H C Λ code.function (v ∷ []) Post)
+    walk : Is (ShrSlice (named 0) κ u8) s (v ∷ [])
+        → ent 𝓤 (onEntry 𝓤 H A read-fields.signature (κ, tt) (q, tt) (s, tt) (v ∷ [], tt)) (WpFn 𝓤 H C Λ code.function (v ∷ []) Post)
     walk p =
+        let slice = shr-slice-lawful 𝓤 H A W (named 0) κ u8 .typed s (v ∷ []) p .0 in
         qed W (raw (onEntry 𝓤 H A read-fields.signature (κ, tt) (q, tt) (s, tt) (v ∷ [], tt)) ∷ []) ∵ enter ! C Λ code.function (v ∷ []) _ $
-        alloc1 ! (λ l₀. alloc1 ! (λ l₁. alloc1 ! (λ l₂. alloc1 ! (λ l₃. alloc1 ! (λ l₄. alloc1 ! (λ l₅. alloc1 ! (λ l₆. alloc1 ! (λ l₇. alloc1 ! (λ l₈. alloc1 ! (λ l₉. alloc1 ! (λ l₁₀. alloc1 ! (λ l₁₁. alloc1 ! (λ l₁₂. alloc0 ! $ params1 ! $
-        pass1 ! (init ! 22 refl (shr-slice-lawful 𝓤 H A W (named 0) κ u8 .typed s (v ∷ []) p .0)) $ pass0 ! $
-        -- local i stands at 2 · (12 − i) behind what a comment names: [what `new` asks; what s owns; …]
-        move ! (26 ∷ []) $ use1 W (raw (New 𝓤 H A mem run .pre to-new) ⊛ ‵ Own) goes-new $ split ! $
-        calls-at ! fm (New 𝓤 H A mem run) known-new to-new (and-then ! (load ! (from ! (stop !)) (look ! 24 refl)) (no-more !)) (λ u₀.
-        arrives ! tt 0 u₀ (lasts new.ended (κ, tt) (s, tt)) (λ is₀. land ! (from ! (stop !)) (init ! 23 refl (typed 0 u₀ is₀)) $
+        alloc1 ! (λ l₀. alloc1 ! (λ l₁. alloc1 ! (λ l₂. alloc1 ! (λ l₃. alloc1 ! (λ l₄. alloc1 ! (λ l₅. alloc1 ! (λ l₆. alloc1 ! (λ l₇. alloc1 ! (λ l₈. alloc0 ! $
+        params1 ! $ pass1 ! (init ! 14 refl slice) $ pass0 ! $
+        -- [what `new` asks; what s owns; …]
+        move ! (18 ∷ []) $ use1 W (raw (New 𝓤 H A mem run .pre to-new) ⊛ ‵ Own) goes-new $ split ! $
+        calls-at ! fm (New 𝓤 H A mem run) known-new to-new (and-then ! (load ! (from ! (stop !)) (look ! 16 refl)) (no-more !)) (λ u₀.
+        arrives ! tt 0 u₀ (lasts new.ended (κ, tt) (s, tt)) (λ is₀. land ! (from ! (stop !)) (init ! 15 refl (typed 0 u₀ is₀)) $
         -- [what the reader owns; the token; what s owns; …], and after `take` the token stands first
-        assigns ! (of-opd ! (load ! (from ! (stop !)) (look ! 23 refl))) (from ! (stop !)) (init ! 13 refl (typed 0 u₀ is₀)) $
-        takes ! 0 4 (lit< tt) u₀ (omega (arith, long), omega arith) (and-then ! (load ! (from ! (stop !)) (look ! 13 refl)) (and-then ! (lit ! tt) (no-more !))) (λ x k ek is-k.
-        land ! (from ! (stop !)) (init ! 21 refl (uint-lawful 𝓤 H A W w32 .typed k _ is-k .0)) $
-        assigns ! (of-opd ! (load ! (from ! (stop !)) (look ! 23 refl))) (from ! (stop !)) (init ! 11 refl (typed 0 u₀ is₀)) $
-        moves ! 0 4 (lit< tt) u₀ (lit< tt) (and-then ! (load ! (from ! (stop !)) (look ! 10 refl)) (and-then ! (lit ! tt) (no-more !))) (λ u₁ is₁.
-        land ! (from ! (stop !)) (init ! 19 refl (typed 4 u₁ is₁)) $
-        assigns ! (of-opd ! (load ! (from ! (stop !)) (look ! 19 refl))) (from ! (stop !)) (init ! 9 refl (typed 4 u₁ is₁)) $
-        takes ! 4 32 (lit< tt) u₁ (omega (arith, long), omega arith) (and-then ! (load ! (from ! (stop !)) (look ! 9 refl)) (and-then ! (lit ! tt) (no-more !))) (λ y t et is-t.
-        land ! (from ! (stop !)) (init ! 17 refl (uint-lawful 𝓤 H A W w32 .typed t _ is-t .0)) $
-        assigns ! (of-opd ! (load ! (from ! (stop !)) (look ! 19 refl))) (from ! (stop !)) (init ! 7 refl (typed 4 u₁ is₁)) $
-        moves ! 4 32 (lit< tt) u₁ (lit< tt) (and-then ! (load ! (from ! (stop !)) (look ! 6 refl)) (and-then ! (lit ! tt) (no-more !))) (λ u₂ is₂.
-        land ! (from ! (stop !)) (init ! 15 refl (typed 36 u₂ is₂)) $
+        assigns ! (of-opd ! (load ! (from ! (stop !)) (look ! 15 refl))) (from ! (stop !)) (init ! 9 refl (typed 0 u₀ is₀)) $
+        takes ! 0 4 (lit< tt) u₀ (omega (arith, long), omega arith)
+        (and-then ! (load ! (from ! (stop !)) (look ! 9 refl)) (and-then ! (lit ! tt) (no-more !))) (λ x k ek is-k.
+        land ! (from ! (stop !)) (init ! 13 refl (uint-lawful 𝓤 H A W w32 .typed k _ is-k .0)) $
+        assigns ! (of-opd ! (load ! (from ! (stop !)) (look ! 15 refl))) (from ! (stop !)) (init ! 7 refl (typed 0 u₀ is₀)) $
+        moves ! 0 4 (lit< tt) u₀ (lit< tt)
+        (and-then ! (load ! (from ! (stop !)) (look ! 6 refl)) (and-then ! (lit ! tt) (no-more !))) (λ u₁ is₁.
+        land ! (from ! (stop !)) (init ! 11 refl (typed 4 u₁ is₁)) $
         -- [the token; what s owns; …]. The reader's machine value is written out, so that its fields are read
-        rewrite ! 15 (λ (u : Val). ‵ (fat fullShare (T′.mir erased) l₆ 0 u)) (ap only (LL.tells (T.the-type α) (T′.the-laws α) (stands 36) _ is₂)) refl $ drop ! $
-        assigns ! (of-opd ! (load ! (from ! (fld ! refl (stop !))) (look-in ! 14 (sub ! 0 refl (whole !))))) (from ! (stop !)) (init ! 4 refl (tt, shr-slice-lawful 𝓤 H A W (named 0) κ u8 .typed s (v ∷ []) p .0 .1)) $
-        assigns ! (of-opd ! (load ! (from ! (fld ! refl (stop !))) (look-in ! 14 (sub ! 1 refl (whole !))))) (from ! (stop !)) (init ! 2 refl (tt, record { fits = lit< tt })) $
+        rewrite ! 11 (λ (u : Val). ‵ (fat fullShare (T′.mir erased) l₄ 0 u)) (ap only (LL.tells (T.the-type α) (T′.the-laws α) (stands 4) _ is₁)) refl $ drop ! $
+        assigns ! (of-opd ! (load ! (from ! (fld ! refl (stop !))) (look-in ! 10 (sub ! 0 refl (whole !))))) (from ! (stop !)) (init ! 4 refl (tt, slice .1)) $
+        assigns ! (of-opd ! (load ! (from ! (fld ! refl (stop !))) (look-in ! 10 (sub ! 1 refl (whole !))))) (from ! (stop !))
+        (init ! 2 refl (tt, record { fits = lit< tt })) $
         move ! (1 ∷ []) $ use1 W (‵ Own ⊛ ‵ Own) (shr-slice-copy 𝓤 H A W (named 0) κ u8 .twice s (v ∷ [])) $ split ! $ move ! (2 ∷ 0 ∷ []) $
-        use2 W (raw (ReadKind 𝓤 H A mem run .pre (to-kind k t x y is-k is-t))) (goes-kind k t x y is-k is-t (refl, et)) $
-        calls-at ! fm (ReadKind 𝓤 H A mem run) known-kind (to-kind k t x y is-k is-t) (and-then ! (load ! (from ! (stop !)) (look ! 4 refl)) (and-then ! (load ! (from ! (stop !)) (look ! 2 refl)) (and-then ! (load ! (from ! (stop !)) (look ! 20 refl)) (and-then ! (load ! (from ! (stop !)) (look ! 16 refl)) (no-more !))))) (λ u.
-        answers ! tt S.the-row u (lasts kind.ended (κ, tt) (s, (36, (k, (t, tt))))) (ReadPost (shapeOfKind k (now s))) (λ r e is.
-        land ! (from ! (stop !)) (init ! 27 refl (LL.lawful S.the-type S′.the-laws 𝓤 H A W .typed r _ is .0)) $
-        returns ! (look ! 27 refl) $ forget ! 3 refl $ forget ! 5 refl $ forget ! 7 refl $ forget ! 9 refl $ forget ! 11 refl $ forget ! 13 refl $ forget ! 15 refl $ forget ! 17 refl $ forget ! 19 refl $ forget ! 21 refl $ forget ! 23 refl $ forget ! 25 refl $ forget ! 27 refl $
-        move ! (27 ∷ 28 ∷ []) $ free1 ! $ move ! (25 ∷ 26 ∷ []) $ free1 ! $ move ! (23 ∷ 24 ∷ []) $ free1 ! $ move ! (21 ∷ 22 ∷ []) $ free1 ! $ move ! (19 ∷ 20 ∷ []) $ free1 ! $ move ! (17 ∷ 18 ∷ []) $ free1 ! $ move ! (15 ∷ 16 ∷ []) $ free1 ! $ move ! (13 ∷ 14 ∷ []) $ free1 ! $ move ! (11 ∷ 12 ∷ []) $ free1 ! $ move ! (9 ∷ 10 ∷ []) $ free1 ! $ move ! (7 ∷ 8 ∷ []) $ free1 ! $ move ! (5 ∷ 6 ∷ []) $ free1 ! $ move ! (3 ∷ 4 ∷ []) $ free1 ! $ free0 ! $
-        by ! (exits r u (subst (λ (n : ℕ). ReadPost (shapeOfKind n (now s)) r) ek e)))))))))))))))))))))))
+        use2 W (raw (ReadKind 𝓤 H A mem run .pre (to-kind k x is-k))) (goes-kind k x is-k) $
+        calls-at ! fm (ReadKind 𝓤 H A mem run) known-kind (to-kind k x is-k)
+        (and-then ! (load ! (from ! (stop !)) (look ! 4 refl)) (and-then ! (load ! (from ! (stop !)) (look ! 2 refl))
+        (and-then ! (load ! (from ! (stop !)) (look ! 12 refl)) (no-more !)))) (λ u.
+        answers ! tt S.the-row u (lasts kind.ended (κ, tt) (s, (4, (k, tt)))) (ReadPost (shapeOfKind k (now s))) (λ r e is.
+        -- [the result; the token; what s owns; …]
+        land ! (from ! (stop !)) (init ! 19 refl (LL.lawful S.the-type S′.the-laws 𝓤 H A W .typed r _ is .0)) $ returns ! (look ! 19 refl) $
+        forget ! 3 refl $ forget ! 5 refl $ forget ! 7 refl $ forget ! 9 refl $ forget ! 11 refl $ forget ! 13 refl $ forget ! 15 refl $ forget ! 17 refl $
+        forget ! 19 refl $ move ! (19 ∷ 20 ∷ []) $ free1 ! $ move ! (17 ∷ 18 ∷ []) $ free1 ! $ move ! (15 ∷ 16 ∷ []) $ free1 ! $
+        move ! (13 ∷ 14 ∷ []) $ free1 ! $ move ! (11 ∷ 12 ∷ []) $ free1 ! $ move ! (9 ∷ 10 ∷ []) $ free1 ! $ move ! (7 ∷ 8 ∷ []) $ free1 ! $
+        move ! (5 ∷ 6 ∷ []) $ free1 ! $ move ! (3 ∷ 4 ∷ []) $ free1 ! $ free0 ! $
+        by ! (exits r u (subst (λ (n : ℕ). ReadPost (shapeOfKind n (now s)) r) ek e)))))))))))))))))
 
 read-fields-meets : {M : Type 1} (𝓤 : URA M) (H : Heap 𝓤) (A : Atoms 𝓤) (W : Given 𝓤 H A) (mem : Memory → SProp 𝓤) (run : Routine → Fun 𝓤) (𝓣 : Tables 𝓤 H)
     → Triple 𝓤 (𝓣 .C new-def.name) (New 𝓤 H A mem run) → Triple 𝓤 (𝓣 .C take-def.name) (Take 𝓤 H A mem run) → Triple 𝓤 (𝓣 .C after-def.name) (After 𝓤 H A mem run) → Triple 𝓤 (𝓣 .C kind-def.name) (ReadKind 𝓤 H A mem run)

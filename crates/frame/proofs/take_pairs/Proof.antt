@@ -82,23 +82,6 @@ returns c =
 
 pub take-pairs-spec : {M : Type 1} → statement M
 take-pairs-spec =
-    tie.close
-    (tie.spec
-    Inv-loop
-    μ-loop
-    loop-holds
-    take-bits-requires
-    add-take-bits
-    take-bits-requires-2
-    (λ c. omega arith)
-    (λ c. omega arith)
-    (λ c. omega arith)
-    (λ c. omega arith)
-    (λ c κs. tt)
-    add-least
-    (λ c. omega arith)
-    add-next-2
-    (λ c. omega arith)
-    (λ c. omega arith)
-    loop-again
-    returns)
+    tie.close (tie.spec Inv-loop μ-loop loop-holds take-bits-requires add-take-bits take-bits-requires-2 (λ c. omega arith)
+    (λ c. omega arith) (λ c. omega arith) (λ c. omega arith) (λ c κs. tt) add-least (λ c. omega arith) add-next-2 (λ c. omega arith)
+    (λ c. omega arith) loop-again returns)
