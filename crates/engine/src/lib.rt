@@ -160,15 +160,15 @@ fn join(
     let gone = before.oldest;
     let oldest = after.oldest;
     let count = after.count;
-    let departed = before.count - count;
+    let leaving = before.count - count;
     let newest = (oldest + count) % layout::SLOTS;
     window::put_message(state, newest, time, serial, m, terms, counts);
     window::put_cursor(state, time, oldest, count + 1);
-    let marks = update_all(state, gone, departed, oldest, count + 1, newest);
+    let marks = update_all(state, gone, leaving, oldest, count + 1, newest);
     Reply {
         number: 0,
         marks,
-        departures: departed as u32,
+        departures: leaving as u32,
     }
 }
 

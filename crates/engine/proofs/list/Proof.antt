@@ -19,7 +19,7 @@ returns-3 c =
 
 returns-4 : tie.Need-returns-4
 returns-4 c =
-    list-right _ _ (omega arith) (omega arith) (c .before .before .in-use .ensures) (not-false _ (c .before .if3 .left)) (c .load-list .ensures)
+    list-right _ _ (omega arith) (omega arith) (c .before .before .in-use .ensures) (not-false _ (c .before .if3 .left)) (search needs)
 
 pub list-spec : {M : Type 1} → statement M
 list-spec =
