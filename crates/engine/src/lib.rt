@@ -282,8 +282,8 @@ fn unregister(state: &mut [u8], time: u32, number: usize) -> Reply
     }
 }
 
-// The first eight of sixteen: what a query has of a frame's pairs.
-fn first_eight(a: [u32; 16]) -> [u32; 8]
+// The first eight of a frame's terms or amounts: a query has no more.
+fn first_eight(a: [u32; MOST_PAIRS]) -> [u32; 8]
     ensures { λ r. ⌜ r ≡ take 8 a ⌝ }
 {
     let mut few = [0u32; 8];
