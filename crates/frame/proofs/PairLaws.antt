@@ -1,15 +1,19 @@
 -- Laws of pairs: as they are judged one by one, and as they stand in an array. Assumes nothing.
-use Prim.Native.Nat.{ℕ, zero, suc, _+_, _-_, _*_, _^_, _≤_, _<_}
+use Prim.Native.Nat.{ℕ, zero, suc, _+_, _-_, _*_, _/_, _%_, _^_, _≤_, _<_}
 use native.Mathlib.Nat.{add-zero, suc-mul, zero-mul, not-suc-le-zero, le-of-suc-le-suc, mul-le-mul-right}
 use native.Mathlib.Numerals.{add-one}
 use native.Mathlib.Omega.{arith}
 use mathlib.Core.Path.{_≡_, refl, sym, ap, _∙_}
 use mathlib.Core.Bool.{Bool, true, false, cond, _&&_}
 use mathlib.Core.List.{List, [], _∷_, _++_, map, map-append}
-use lib.ListN.{length, drop, getD, set, length-map}
-use lib.Seq.{drop-cons}
+use lib.ListN.{length, take, drop, getD, set, length-map, length-drop}
+use lib.Seq.{drop-cons, length-take-le, take-add, drop-drop}
+use lib.Pow.{high, low}
 use lib.Dec.{eqb, leb, ltb, eqb·suc-zero}
+use Rattle.wire.specs.Bits.{num, unpack}
 use Rattle.wire.specs.Field.{field}
+use Rattle.wire.proofs.BitLaws.{num-append, length-unpack}
+use Rattle.wire.proofs.FieldLaws.{field-lt}
 use Rattle.paper.specs.Frame.{Pair, positive, rises, pairsAt, termWidth, mostPairs}
 use Rattle.paper.proofs.FrameLaws.{length-pairs}
 use Rattle.paper.specs.Write.{side-by-side, allWithin}
@@ -68,6 +72,21 @@ within-all w [] = refl
 within-all w (p ∷ ps) = ap (λ (t : Bool). inLimits w p && t) (within-all w ps)
 
 -- ---- pairs read one after the other
+
+-- two fields side by side, read as one
+field-parts : (s : List ℕ) (at a b : ℕ) → at + (a + b) ≤ 8 * length s → field s at (a + b) ≡ field s at a * 2 ^ b + field s (at + a) b
+unfolding field
+field-parts s at a b h =
+    let l : List Bool = drop at (unpack s) in
+    let n : length (take b (drop a l)) ≡ b = length-take-le b (drop a l) (rw (length-drop a l, length-drop at (unpack s), length-unpack s) (omega arith)) in
+    ap num (take-add a b l) ∙ num-append (take a l) (take b (drop a l)) ∙ rw (n, drop-drop a at (unpack s))
+
+-- a pair's term and amount in its bits
+pub pair-term : (s : List ℕ) (at w : ℕ) → at + (termWidth + w) ≤ 8 * length s → field s at (termWidth + w) / 2 ^ w ≡ field s at termWidth
+pair-term s at w h = rw (field-parts s at termWidth w h) (high (field s at termWidth) w (field-lt s (at + termWidth) w))
+
+pub pair-amount : (s : List ℕ) (at w : ℕ) → at + (termWidth + w) ≤ 8 * length s → field s at (termWidth + w) % 2 ^ w ≡ field s (at + termWidth) w
+pair-amount s at w h = rw (field-parts s at termWidth w h) (low (field s at termWidth) w (field-lt s (at + termWidth) w))
 
 -- the pair at bit `at`
 abbrev pub pairAt : List ℕ → ℕ → ℕ → Pair

@@ -1,6 +1,6 @@
 // Frames: what a slice of bytes says, and the bytes of a frame's fields.
 ghost use mathlib.Core.Path.{_≡_};
-ghost use Prim.Native.Nat.{ℕ, _+_, _-_, _*_, _≤_, _<_, _^_};
+ghost use Prim.Native.Nat.{ℕ, _+_, _-_, _*_, _/_, _%_, _≤_, _<_, _^_};
 ghost use lib.ListN.{length, take, getD};
 ghost use lib.Dec.{eqb};
 ghost use mathlib.Core.Bool.{cond};
@@ -116,10 +116,25 @@ fn misfit(bytes: &[u8], bits: usize) -> u32
     0
 }
 
+fn high_bits(both: u32, width: usize) -> u32
+    requires { ⌜ width < 32 ⌝ }
+    ensures { λ r. ⌜ r ≡ both / 2 ^ width ⌝ }
+{
+    both >> width
+}
+
+fn low_bits(both: u32, width: usize) -> u32
+    requires { ⌜ width < 32 ⌝ }
+    ensures { λ r. ⌜ r ≡ both % 2 ^ width ⌝ }
+{
+    let limit = wire::pow2(width);
+    both % limit
+}
+
 // The m pairs from bit `at`, whose counts or weights have `width` bits.
 fn take_pairs(bytes: &[u8], at: usize, width: usize, m: usize) -> PairList
     requires { ⌜ at + m * (10 + width) ≤ 8 * length (now bytes) ⌝ }
-    requires { ⌜ (at + m * (10 + width) ≤ 1024) × (m ≤ 16) × (width ≤ 32) ⌝ }
+    requires { ⌜ (at + m * (10 + width) ≤ 1024) × (m ≤ 16) × (width ≤ 22) ⌝ }
     ensures { λ r. ⌜ PairsPost (now (bytes .entry)) at width m r ⌝ }
 {
     let mut terms = [0u32; 16];
@@ -129,8 +144,9 @@ fn take_pairs(bytes: &[u8], at: usize, width: usize, m: usize) -> PairList
     let mut next = at;
     let mut i = 0;
     while i < m {
-        let term = wire::take_bits(bytes, next, 10);
-        let amount = wire::take_bits(bytes, next + 10, width);
+        let both = wire::take_bits(bytes, next, 10 + width);
+        let term = high_bits(both, width);
+        let amount = low_bits(both, width);
         terms[i] = term;
         amounts[i] = amount;
         number = judge(number, 0 < amount, least, term);
@@ -147,7 +163,7 @@ fn take_pairs(bytes: &[u8], at: usize, width: usize, m: usize) -> PairList
 
 // The m pairs after a head of so many bits, where nothing of 3 to 6 refuses them.
 fn checked_pairs(bytes: &[u8], head: usize, width: usize, m: usize) -> PairList
-    requires { ⌜ (head + m * (10 + width) ≤ 1024) × (m ≤ 16) × (width ≤ 32) ⌝ }
+    requires { ⌜ (head + m * (10 + width) ≤ 1024) × (m ≤ 16) × (width ≤ 22) ⌝ }
     ensures { λ r. ⌜ CheckedPost (now (bytes .entry)) head width m r ⌝ }
 {
     let number = misfit(bytes, head + m * (10 + width));

@@ -1,6 +1,5 @@
 -- `row_of` meets its contract. Assumes nothing.
 use mathlib.Core.Path.{refl}
-use mathlib.Core.List.{[], _∷_}
 use lib.Dec.{lit≤}
 use Rattle.wire.specs.Field.{total}
 use Rattle.paper.specs.Frame.{messageRow, tickRow, registerRow, unregisterRow, noRow, rowOf}
@@ -11,25 +10,25 @@ use Rattle.frame.proofs.row_of.Tie as tie
 
 returns : tie.Need-returns
 unfolding rowOf total
-returns c = rw (c .before .match .keys1) (row-as messageRow 3 (32 ∷ 20 ∷ 4 ∷ 0 ∷ 0 ∷ []) 8 _ (c .row-with .ensures) refl refl refl refl)
+returns c = rw (c .before .match .keys1) (row-as messageRow _ _ _ _ (c .row-with .ensures) refl refl refl refl)
 
 returns-2 : tie.Need-returns-2
 unfolding rowOf total
-returns-2 c = rw (c .before .match .keys2) (row-as tickRow 1 (32 ∷ 0 ∷ 0 ∷ 0 ∷ 0 ∷ []) 0 _ (c .row-with2 .ensures) refl refl refl refl)
+returns-2 c = rw (c .before .match .keys2) (row-as tickRow _ _ _ _ (c .row-with2 .ensures) refl refl refl refl)
 
 returns-3 : tie.Need-returns-3
 unfolding rowOf total
-returns-3 c = rw (c .before .match .keys3) (row-as registerRow 4 (32 ∷ 5 ∷ 4 ∷ 3 ∷ 0 ∷ []) 4 _ (c .row-with3 .ensures) refl refl refl refl)
+returns-3 c = rw (c .before .match .keys3) (row-as registerRow _ _ _ _ (c .row-with3 .ensures) refl refl refl refl)
 
 returns-4 : tie.Need-returns-4
 unfolding rowOf total
-returns-4 c = rw (c .before .match .keys4) (row-as unregisterRow 2 (32 ∷ 5 ∷ 0 ∷ 0 ∷ 0 ∷ []) 0 _ (c .row-with4 .ensures) refl refl refl refl)
+returns-4 c = rw (c .before .match .keys4) (row-as unregisterRow _ _ _ _ (c .row-with4 .ensures) refl refl refl refl)
 
 returns-5 : tie.Need-returns-5
 unfolding total
 returns-5 c =
     let no = c .before .match .rest in
-    rw (no-row (c .before .before .args .kind) (no .0 .0 .0 .1) (no .0 .0 .1) (no .0 .1) (no .1)) (row-as noRow 0 (0 ∷ 0 ∷ 0 ∷ 0 ∷ 0 ∷ []) 0 _ (c .row-with5 .ensures) refl refl refl refl)
+    rw (no-row (c .before .before .args .kind) (no .0 .0 .0 .1) (no .0 .0 .1) (no .0 .1) (no .1)) (row-as noRow _ _ _ _ (c .row-with5 .ensures) refl refl refl refl)
 
 pub row-of-spec : {M : Type 1} → statement M
 row-of-spec =

@@ -1,5 +1,5 @@
 -- `take_pairs` meets its contract. Assumes nothing.
-use Prim.Native.Nat.{_+_, _*_, _-_, _≤_}
+use Prim.Native.Nat.{ℕ, _+_, _*_, _-_, _/_, _%_, _^_, _≤_}
 use native.Mathlib.Omega.{arith}
 use native.Mathlib.Numerals.{add-one}
 use native.Mathlib.Nat.{zero-mul, add-zero, sub-zero, suc-mul}
@@ -7,10 +7,11 @@ use mathlib.Core.Bool.{Bool}
 use mathlib.Core.List.{[]}
 use mathlib.Core.Path.{_≡_, refl, sym, ap, _∙_}
 use lib.ListN.{length}
+use Rattle.wire.specs.Field.{field}
 use Rattle.paper.specs.Frame.{pairsAt, positive}
 use Rattle.frame.specs.Read.{termArray, amountArray, pairsNumber}
 use Rattle.wire.proofs.FieldLaws.{field-lt}
-use Rattle.frame.proofs.PairLaws.{judgedFrom, judged-all, counted, positive-all, turn-fits, array-turn, number-turn, pairs-none}
+use Rattle.frame.proofs.PairLaws.{judgedFrom, judged-all, pair-term, pair-amount, counted, positive-all, turn-fits, array-turn, number-turn, pairs-none}
 use Rattle.frame.proofs.take_pairs.Statement.{statement}
 use Rattle.frame.proofs.take_pairs.Tie as tie
 
@@ -41,30 +42,46 @@ fits c =
 take-bits-requires : tie.Need-take-bits-requires Inv-loop μ-loop
 take-bits-requires c κs = let h = fits c in omega arith
 
-add-take-bits : tie.Need-add-take-bits Inv-loop μ-loop
-add-take-bits c = let h = fits (c .before) in omega arith
+-- the two parts of what is taken
+term-is : (c : tie.After-high-bits Inv-loop μ-loop) → let a = c .before .before .before .before .before .args in
+    c .high-bits .result ≡ field (a .bytes .now) (c .before .before .before .loop .next) 10
+term-is c =
+    let a = c .before .before .before .before .before .args in
+    let h = fits (c .before .before) in
+    c .high-bits .ensures ∙ ap (λ (x : ℕ). x / 2 ^ a .width) (c .before .take-bits .ensures)
+    ∙ pair-term (a .bytes .now) (c .before .before .before .loop .next) (a .width) (h .0)
 
-take-bits-requires-2 : tie.Need-take-bits-requires-2 Inv-loop μ-loop
-take-bits-requires-2 c κs = let h = fits (c .before) in omega arith
+amount-is : (c : tie.After-low-bits Inv-loop μ-loop) → let a = c .before .before .before .before .before .before .args in
+    c .low-bits .result ≡ field (a .bytes .now) (c .before .before .before .before .loop .next + 10) (a .width)
+amount-is c =
+    let a = c .before .before .before .before .before .before .args in
+    let h = fits (c .before .before .before) in
+    c .low-bits .ensures ∙ ap (λ (x : ℕ). x % 2 ^ a .width) (c .before .before .take-bits .ensures)
+    ∙ pair-amount (a .bytes .now) (c .before .before .before .before .loop .next) (a .width) (h .0)
 
 add-least : tie.Need-add-least Inv-loop μ-loop
-add-least c = omega (arith, c .before .before .take-bits .ensures, field-lt (c .before .before .before .before .before .before .args .bytes .now) (c .before .before .before .before .loop .next) 10)
+add-least c =
+    let high = c .before .before in
+    omega (arith, term-is high, field-lt (high .before .before .before .before .before .args .bytes .now) (high .before .before .before .loop .next) 10)
 
 add-next-2 : tie.Need-add-next-2 Inv-loop μ-loop
-add-next-2 c = let h = fits (c .before .before .before) in omega arith
+add-next-2 c = let h = fits (c .before .before .before .before) in omega arith
 
 loop-again : tie.Need-loop-again Inv-loop μ-loop
 loop-again c =
-    let l = c .before .before .before .before .loop in
-    let a = c .before .before .before .before .before .before .args in
+    let l = c .before .before .before .before .before .loop in
+    let a = c .before .before .before .before .before .before .before .args in
     let s = a .bytes .now in
-    let term = c .before .before .take-bits in
-    let amount = c .before .take-bits2 in (
+    let term = c .before .before .high-bits .result in
+    let amount = c .before .low-bits .result in
+    let is-term = term-is (c .before .before) in
+    let is-amount = amount-is (c .before) in (
       omega arith,
       rw (l .inv .1, add-one (l .i), suc-mul (l .i) (10 + a .width)) (omega arith),
-      array-turn s (a .width) (l .i) (l .next) (λ p. p .term) (a .at) (l .terms) (term .result) (omega arith) (l .inv .1) (l .inv .2) (term .ensures),
-      array-turn s (a .width) (l .i) (l .next) (λ p. p .amount) (a .at) (l .amounts) (amount .result) (omega arith) (l .inv .1) (l .inv .3) (amount .ensures),
-      number-turn s (a .width) (l .i) (l .next) (a .m) (l .number) (l .least) (term .result) (amount .result) (c .judge .result) _ (omega arith) (l .inv .4) (term .ensures) (amount .ensures) (c .judge .ensures),
+      array-turn s (a .width) (l .i) (l .next) (λ p. p .term) (a .at) (l .terms) term (omega arith) (l .inv .1) (l .inv .2) is-term,
+      array-turn s (a .width) (l .i) (l .next) (λ p. p .amount) (a .at) (l .amounts) amount (omega arith) (l .inv .1) (l .inv .3) is-amount,
+      number-turn s (a .width) (l .i) (l .next) (a .m) (l .number) (l .least) term amount (c .judge .result) _ (omega arith) (l .inv .4) is-term is-amount
+          (c .judge .ensures),
     )
 
 returns : tie.Need-returns Inv-loop μ-loop
@@ -82,6 +99,6 @@ returns c =
 
 pub take-pairs-spec : {M : Type 1} → statement M
 take-pairs-spec =
-    tie.close (tie.spec Inv-loop μ-loop loop-holds take-bits-requires add-take-bits take-bits-requires-2 (λ c. omega arith)
+    tie.close (tie.spec Inv-loop μ-loop loop-holds (λ c. omega arith) take-bits-requires (λ c κs. omega arith) (λ c κs. omega arith) (λ c. omega arith)
     (λ c. omega arith) (λ c. omega arith) (λ c. omega arith) (λ c κs. tt) add-least (λ c. omega arith) add-next-2 (λ c. omega arith)
     (λ c. omega arith) loop-again returns)
