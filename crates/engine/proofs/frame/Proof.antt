@@ -8,53 +8,92 @@ use Rattle.engine.proofs.frame.Tie as tie
 returns : tie.Need-returns
 returns c = not-lent _ _ _ (search needs) (c .refused .ensures)
 
+-- On the way back from a need: `arm` is where the kind is known, `parsed` where the frame was read, `opened` where the call began.
+
 message-requires : tie.Need-message-requires
 message-requires c κs =
-    let read = c .before .before .before .before .before .before .read in
-    let m = read-message (c .before .before .before .before .before .before .before .before .before .before .args .bytes .now) (read .result) (read .ensures) _ _ _ (c .before .before .what .given .1) in
+    let arm = c .before .before in
+    let parsed = arm .before .before .before .before in
+    let opened = parsed .before .before .before in
+    let bytes = opened .before .args .bytes .now in
+    let read = parsed .read in
+    let m = read-message bytes (read .result) (read .ensures) _ _ _ (arm .what .given .1) in
     (search needs, ((m .least, m .most), m .fit))
 
 register-requires : tie.Need-register-requires
 register-requires c κs =
-    let read = c .before .before .before .before .before .before .before .before .read in
-    let m = read-register (c .before .before .before .before .before .before .before .before .before .before .before .before .args .bytes .now) (read .result) (read .ensures) _ _ _ _ (c .before .before .before .before .what3 .given .1) in
+    let arm = c .before .before .before .before in
+    let parsed = arm .before .before .before .before in
+    let opened = parsed .before .before .before in
+    let bytes = opened .before .args .bytes .now in
+    let read = parsed .read in
+    let m = read-register bytes (read .result) (read .ensures) _ _ _ _ (arm .what3 .given .1) in
     let few = read-eight (c .before .before .first-eight .ensures) (c .before .first-eight2 .ensures) (m .0) (m .4) in
     (search needs, ((m .1, m .2, m .3, few .least, m .4), few .fit))
 
 unregister-requires : tie.Need-unregister-requires
 unregister-requires c κs =
-    let read = c .before .before .before .before .before .before .read in
-    (search needs, read-unregister (c .before .before .before .before .before .before .before .before .before .before .args .bytes .now) (read .result) (read .ensures) _ _ (c .before .before .what4 .given .1))
+    let arm = c .before .before in
+    let parsed = arm .before .before .before .before in
+    let opened = parsed .before .before .before in
+    let bytes = opened .before .args .bytes .now in
+    let read = parsed .read in
+    (search needs, read-unregister bytes (read .result) (read .ensures) _ _ (arm .what4 .given .1))
 
 returns-2 : tie.Need-returns-2
 returns-2 c =
-    let read = c .before .before .before .before .before .before .before .before .before .read in
-    let m = read-message (c .before .before .before .before .before .before .before .before .before .before .before .before .before .args .bytes .now) (read .result) (read .ensures) _ _ _ (c .before .before .before .before .before .what .given .1) in
-    done _ _ _ _ _ (search needs) (search needs) (m .is) (λ i. c .before .before .before .before .before .before .before .before .before .before .before .before .slice-known .given i .fits) (λ i. c .slice-known2 .given i .fits) (c .before .before .message .ensures)
+    let arm = c .before .before .before .before .before in
+    let parsed = arm .before .before .before .before in
+    let opened = parsed .before .before .before in
+    let bytes = opened .before .args .bytes .now in
+    let read = parsed .read in
+    let m = read-message bytes (read .result) (read .ensures) _ _ _ (arm .what .given .1) in
+    done _ _ _ _ _ (search needs) (search needs) (m .is) (λ i. opened .slice-known .given i .fits) (λ i. c .slice-known2 .given i .fits)
+        (c .before .before .message .ensures)
 
 returns-3 : tie.Need-returns-3
 returns-3 c =
-    let read = c .before .before .before .before .before .before .before .before .before .read in
-    let m = read-as (c .before .before .before .before .before .before .before .before .before .before .before .before .before .args .bytes .now) (read .result) (read .ensures) _ (c .before .before .before .before .before .what2 .given .1) in
-    done _ _ _ _ _ (search needs) (search needs) m (λ i. c .before .before .before .before .before .before .before .before .before .before .before .before .slice-known .given i .fits) (λ i. c .slice-known3 .given i .fits) (c .before .before .tick .ensures)
+    let arm = c .before .before .before .before .before in
+    let parsed = arm .before .before .before .before in
+    let opened = parsed .before .before .before in
+    let bytes = opened .before .args .bytes .now in
+    let read = parsed .read in
+    let m = read-as bytes (read .result) (read .ensures) _ (arm .what2 .given .1) in
+    done _ _ _ _ _ (search needs) (search needs) m (λ i. opened .slice-known .given i .fits) (λ i. c .slice-known3 .given i .fits)
+        (c .before .before .tick .ensures)
 
 returns-4 : tie.Need-returns-4
 returns-4 c =
-    let read = c .before .before .before .before .before .before .before .before .before .before .before .read in
-    let m = read-register (c .before .before .before .before .before .before .before .before .before .before .before .before .before .before .before .args .bytes .now) (read .result) (read .ensures) _ _ _ _ (c .before .before .before .before .before .before .before .what3 .given .1) in
-    let few = read-eight (c .before .before .before .before .before .first-eight .ensures) (c .before .before .before .before .first-eight2 .ensures) (m .0) (m .4) in
-    done _ _ _ _ _ (search needs) (search needs) (few .is) (λ i. c .before .before .before .before .before .before .before .before .before .before .before .before .before .before .slice-known .given i .fits) (λ i. c .slice-known4 .given i .fits) (c .before .before .register .ensures)
+    let arm = c .before .before .before .before .before .before .before in
+    let parsed = arm .before .before .before .before in
+    let opened = parsed .before .before .before in
+    let bytes = opened .before .args .bytes .now in
+    let read = parsed .read in
+    let m = read-register bytes (read .result) (read .ensures) _ _ _ _ (arm .what3 .given .1) in
+    let cut = c .before .before .before .before in
+    let few = read-eight (cut .before .first-eight .ensures) (cut .first-eight2 .ensures) (m .0) (m .4) in
+    done _ _ _ _ _ (search needs) (search needs) (few .is) (λ i. opened .slice-known .given i .fits) (λ i. c .slice-known4 .given i .fits)
+        (c .before .before .register .ensures)
 
 returns-5 : tie.Need-returns-5
 returns-5 c =
-    let read = c .before .before .before .before .before .before .before .before .before .read in
-    let m = read-as (c .before .before .before .before .before .before .before .before .before .before .before .before .before .args .bytes .now) (read .result) (read .ensures) _ (c .before .before .before .before .before .what4 .given .1) in
-    done _ _ _ _ _ (search needs) (search needs) m (λ i. c .before .before .before .before .before .before .before .before .before .before .before .before .slice-known .given i .fits) (λ i. c .slice-known5 .given i .fits) (c .before .before .unregister .ensures)
+    let arm = c .before .before .before .before .before in
+    let parsed = arm .before .before .before .before in
+    let opened = parsed .before .before .before in
+    let bytes = opened .before .args .bytes .now in
+    let read = parsed .read in
+    let m = read-as bytes (read .result) (read .ensures) _ (arm .what4 .given .1) in
+    done _ _ _ _ _ (search needs) (search needs) m (λ i. opened .slice-known .given i .fits) (λ i. c .slice-known5 .given i .fits)
+        (c .before .before .unregister .ensures)
 
 returns-6 : tie.Need-returns-6
 returns-6 c =
-    let read = c .before .before .before .before .before .before .read in
-    misshapen _ _ _ _ (search needs) (read-as (c .before .before .before .before .before .before .before .before .before .before .args .bytes .now) (read .result) (read .ensures) _ (c .before .before .what5 .given .1)) (c .refused2 .ensures)
+    let arm = c .before .before in
+    let parsed = arm .before .before .before .before in
+    let opened = parsed .before .before .before in
+    let bytes = opened .before .args .bytes .now in
+    let read = parsed .read in
+    misshapen _ _ _ _ (search needs) (read-as bytes (read .result) (read .ensures) _ (arm .what5 .given .1)) (c .refused2 .ensures)
 
 pub frame-spec : {M : Type 1} → statement M
 frame-spec =

@@ -26,15 +26,22 @@ join-requires c κs = (
   ),
 )
 
+-- On the way back: `room` is where the oldest made room, `seen` where the serial was looked for, `aged` where past messages left.
 returns-3 : tie.Need-returns-3
 returns-3 c =
-    let before = c .before .before .before .before .before .before .before .before .before .before .before .before .before .before .before .before .load .ensures in
-    let aged = c .before .before .before .before .before .before .before .before .before .before .advanced .ensures in
-    let roomy = c .before .before .before .before .roomy .ensures in
-    let capacity = c .before .before .before .before .before .capacity-of .ensures in
-    let shorter = aged .moved .count-most in
-    let few = before .count-below in
-    message-done before (c .before .before .before .before .before .before .before .before .before .before .before .before .get .ensures) aged (omega arith) (c .before .before .before .before .before .before .before .before .has-serial .ensures) (c .before .before .before .before .before .before .before .if2 .left) capacity roomy (c .before .before .join .ensures) (room-left capacity roomy (omega arith))
+    let joined = c .before .before in
+    let room = joined .before .before in
+    let capacity = room .before .capacity-of .ensures in
+    let unseen = room .before .before .before in
+    let seen = unseen .before in
+    let aged = seen .before .before in
+    let told = aged .before .before in
+    let loaded = told .before .before .before .before .load .ensures in
+    let advanced = aged .advanced .ensures in
+    let shorter = advanced .moved .count-most in
+    let few = loaded .count-below in
+    message-done loaded (told .get .ensures) advanced (omega arith) (seen .has-serial .ensures) (unseen .if2 .left) capacity (room .roomy .ensures)
+        (joined .join .ensures) (room-left capacity (room .roomy .ensures) (omega arith))
 
 pub message-spec : {M : Type 1} → statement M
 message-spec =
