@@ -10,7 +10,6 @@ use Rattle.paper.specs.Frame.{Pair}
 use Rattle.paper.specs.Order.{In}
 use Rattle.paper.specs.Rank.{Line}
 use Rattle.paper.specs.Sort.{select}
-use Rattle.paper.specs.Layout.{slots}
 use Rattle.impact.specs.Cell.{RisingCells}
 use Rattle.rank.specs.Listing.{grown}
 use Rattle.window.specs.Slot.{slot, next, ring, window}

@@ -1,6 +1,6 @@
 // The engine: frames in, a ranked list for each registered query kept in lent memory.
 ghost use mathlib.Core.Path.{_≡_};
-ghost use Prim.Native.Nat.{ℕ, _+_, _*_, _%_, _<_, _≤_, _^_};
+ghost use Prim.Native.Nat.{ℕ, _+_, _%_, _<_, _≤_, _^_};
 ghost use lib.ListN.{length, getD, replicate, take};
 ghost use Rattle.paper.specs.Frame.{Frame, numbers, termWidth, countWidth, weightWidth, mostPairs, mostTerms, mostListed};
 ghost use Rattle.paper.specs.Write.{side-by-side};

@@ -259,7 +259,7 @@ fn framed(kind: u32, values: [u32; 5], m: usize, terms: [u32; 16], amounts: [u32
     }
 }
 
-// The fields after the kind, which end at bit `at`, by the kind's row.
+// The fields after the kind, from bit `at` on, by the row of the kind.
 fn read_kind(bytes: &[u8], at: usize, kind: u32) -> Parsed
     requires { ⌜ at ≡ kindWidth ⌝ }
     ensures { λ r. ⌜ ReadPost (shapeOfKind kind (now (bytes .entry))) r ⌝ }

@@ -6,7 +6,7 @@ use mathlib.Core.Bool.{Bool, true, cond, _&&_}
 use mathlib.Core.List.{List, [], _∷_, map}
 use lib.ListN.{length}
 use lib.Dec.{eqb, leb, ltb}
-use Rattle.paper.specs.Frame.{Pair, Frame, Shape, encode, termWidth, timeWidth, serialWidth, numbers, mostListed, Fields, Field, Row, rowOf, known, frameOf, judged}
+use Rattle.paper.specs.Frame.{Pair, Frame, Shape, encode, termWidth, Fields, Field, Row, rowOf, known, frameOf, judged}
 use Rattle.paper.specs.Frame.Frame.{message, tick, register, unregister}
 use Rattle.paper.specs.Frame.Field.{plain, lessOne}
 use Rattle.paper.specs.Frame.Shape.{refused, accepted}

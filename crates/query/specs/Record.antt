@@ -13,7 +13,7 @@ use Rattle.paper.specs.Window.{Message}
 use Rattle.paper.specs.Threshold.{Kept, Settled, termAt, weightAt}
 use Rattle.rank.specs.Weights.{weightLimit}
 use Rattle.rank.specs.Listing.{listed, ZeroFrom}
-use Rattle.paper.specs.Layout.{slots, flagWords, recordAt, recordWords, sizeIn, pairsIn, listedIn, thresholdsIn, serialsIn, scoresIn, flagsIn}
+use Rattle.paper.specs.Layout.{flagWords, recordAt, recordWords, sizeIn, pairsIn, listedIn, thresholdsIn, serialsIn, scoresIn, flagsIn}
 use Rattle.window.specs.Slot.{slot, ring}
 use Rattle.candidates.specs.Match.{exceedsCells}
 use Rattle.candidates.specs.Flags.{flagOf, inRing}

@@ -1,8 +1,8 @@
 // The record of a registered query in the state memory: what is kept of it, and how a frame that reaches it updates that.
 ghost use mathlib.Core.Path.{_≡_};
 ghost use Prim.Native.Nat.{ℕ, _+_, _*_, _%_, _<_, _≤_};
-ghost use mathlib.Core.Bool.{Bool, not};
-ghost use lib.ListN.{length, getD, take, drop};
+ghost use mathlib.Core.Bool.{not};
+ghost use lib.ListN.{length, getD};
 ghost use lib.Dec.{eqb};
 ghost use Rattle.paper.specs.Frame.{numbers, mostTerms, mostListed};
 ghost use Rattle.paper.specs.Impact.{top};
@@ -10,9 +10,7 @@ ghost use Rattle.paper.specs.Write.{side-by-side};
 ghost use Rattle.paper.specs.Layout.{stateLength, slots, recordAt};
 ghost use Rattle.memory.specs.Words.{words};
 ghost use Rattle.window.specs.Terms.{termLimit, Added};
-ghost use Rattle.rank.specs.Listing.{linesOf};
 ghost use Rattle.rank.specs.Weights.{weightLimit};
-ghost use Rattle.query.specs.Record.{Says};
 ghost use Rattle.query.specs.Post.{Clamped, InRange, LoadedQuery, LoadedThresholds, LoadedList, Lifted, secure, StoredKept, Finished, Refilled, SettledFrom, Arriving, Reached, Arrived, NewestLow, Stands, KeptList, movedTerms, Shares, Updated, Packed, PutQuery, Registered, Cleared};
 use candidates::Query;
 use paper::layout;

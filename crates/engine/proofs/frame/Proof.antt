@@ -49,7 +49,7 @@ returns-2 c =
     let read = parsed .read in
     let m = read-message bytes (read .result) (read .ensures) _ _ _ (arm .what .given .1) in
     done _ _ _ _ _ (search needs) (search needs) (m .is) (λ i. opened .slice-known .given i .fits) (λ i. c .slice-known2 .given i .fits)
-        (c .before .before .message .ensures)
+    (c .before .before .message .ensures)
 
 returns-3 : tie.Need-returns-3
 returns-3 c =
@@ -60,7 +60,7 @@ returns-3 c =
     let read = parsed .read in
     let m = read-as bytes (read .result) (read .ensures) _ (arm .what2 .given .1) in
     done _ _ _ _ _ (search needs) (search needs) m (λ i. opened .slice-known .given i .fits) (λ i. c .slice-known3 .given i .fits)
-        (c .before .before .tick .ensures)
+    (c .before .before .tick .ensures)
 
 returns-4 : tie.Need-returns-4
 returns-4 c =
@@ -73,7 +73,7 @@ returns-4 c =
     let cut = c .before .before .before .before in
     let few = read-eight (cut .before .first-eight .ensures) (cut .first-eight2 .ensures) (m .0) (m .4) in
     done _ _ _ _ _ (search needs) (search needs) (few .is) (λ i. opened .slice-known .given i .fits) (λ i. c .slice-known4 .given i .fits)
-        (c .before .before .register .ensures)
+    (c .before .before .register .ensures)
 
 returns-5 : tie.Need-returns-5
 returns-5 c =
@@ -84,7 +84,7 @@ returns-5 c =
     let read = parsed .read in
     let m = read-as bytes (read .result) (read .ensures) _ (arm .what4 .given .1) in
     done _ _ _ _ _ (search needs) (search needs) m (λ i. opened .slice-known .given i .fits) (λ i. c .slice-known5 .given i .fits)
-        (c .before .before .unregister .ensures)
+    (c .before .before .unregister .ensures)
 
 returns-6 : tie.Need-returns-6
 returns-6 c =

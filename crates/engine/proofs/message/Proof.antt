@@ -41,7 +41,7 @@ returns-3 c =
     let shorter = advanced .moved .count-most in
     let few = loaded .count-below in
     message-done loaded (told .get .ensures) advanced (omega arith) (seen .has-serial .ensures) (unseen .if2 .left) capacity (room .roomy .ensures)
-        (joined .join .ensures) (room-left capacity (room .roomy .ensures) (omega arith))
+    (joined .join .ensures) (room-left capacity (room .roomy .ensures) (omega arith))
 
 pub message-spec : {M : Type 1} → statement M
 message-spec =
