@@ -15,8 +15,11 @@ returns-2 c = frame-refused (omega arith) (omega arith) (c .before .before .befo
 
 returns-3 : tie.Need-returns-3
 returns-3 c =
-    frame-accepted _ _ _ (c .before .before .before .before .before .before .before .before .before .before .before .before .frame .result) (omega arith) (search needs) (search needs) (c .before .before .before .before .before .before .put .ensures) (c .before .before .put2 .ensures)
-    (omega arith) (c .before .before .before .before .before .before .before .before .before .before .before .before .frame .ensures)
+    let departures = c .before .before in
+    let marks = departures .before .before .before .before in
+    let framed = marks .before .before .before .before .before .before in
+    frame-accepted _ _ _ (framed .frame .result) (omega arith) (search needs) (search needs) (marks .put .ensures) (departures .put2 .ensures)
+    (omega arith) (framed .frame .ensures)
 
 pub fennelrake-frame-spec : {M : Type 1} → statement M
 fennelrake-frame-spec =

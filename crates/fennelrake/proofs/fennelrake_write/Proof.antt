@@ -25,13 +25,21 @@ slice-aggregate-write c =
 
 add-result : tie.Need-add-result
 add-result c =
-    let most = written-most (withTerms (handed (c .before .before .before .before .before .before .before .before .before .before .before)) (take (c .before .before .before .before .before .before .before .at-most-16 .result) (c .before .before .before .before .before .before .first-terms .result))) (c .before .before .before .write .ensures) in
+    let written = c .before .before .before in
+    let taken = written .before .before .before in
+    let counted = taken .before in
+    let start = counted .before .before .before .before in
+    let most = written-most (withTerms (handed start) (take (counted .at-most-16 .result) (taken .first-terms .result))) (written .write .ensures) in
     record { fits = omega arith }
 
 returns : tie.Need-returns
 returns c =
-    write-heard (handed (c .before .before .before .before .before .before .before .before .before .before .before)) (c .before .before .before .before .before .before .before .at-most-16 .result) (c .before .before .before .before .before .before .first-terms .ensures) (omega arith)
-    (λ h. omega (arith, length-terms (now (c .before .before .before .before .before .before .before .before .before .before .before .args .terms)), c .before .before .before .before .before .before .before .at-most-16 .ensures .2 h)) (c .before .before .before .write .ensures)
+    let written = c .before .before .before in
+    let taken = written .before .before .before in
+    let counted = taken .before in
+    let start = counted .before .before .before .before in
+    write-heard (handed start) (counted .at-most-16 .result) (taken .first-terms .ensures) (omega arith)
+    (λ h. omega (arith, length-terms (now (start .args .terms)), counted .at-most-16 .ensures .2 h)) (written .write .ensures)
 
 pub fennelrake-write-spec : {M : Type 1} → statement M
 fennelrake-write-spec =

@@ -58,11 +58,14 @@ loop-again : tie.Need-loop-again Inv-loop μ-loop
 loop-again c =
     let at-loop = c .before .before .before .before .before .before .before .before .before .before .before in
     let l = at-loop .loop in
-    let a = at-loop .before .before .before .before .args in (
+    let a = at-loop .before .before .before .before .args in
+    let amount = c .before .before in
+    let term = amount .before .before .before .before .before in (
       omega arith,
       rw (l .inv .1, add-one (l .i), suc-mul (l .i) (10 + a .width)) (omega arith),
       omega arith,
-      put-turn (a .out .now) (l .out) (c .before .before .before .before .before .before .before .put-bits .last .0) _ (a .terms .now) (a .amounts .now) (a .at) (a .width) (l .i) (l .next) (omega arith) (omega arith) (omega arith) (l .inv .1) (l .inv .3) (c .before .before .before .before .before .before .before .put-bits .ensures) (c .before .before .put-bits2 .ensures),
+      put-turn (a .out .now) (l .out) (term .put-bits .last .0) _ (a .terms .now) (a .amounts .now) (a .at) (a .width) (l .i) (l .next)
+          (omega arith) (omega arith) (omega arith) (l .inv .1) (l .inv .3) (term .put-bits .ensures) (amount .put-bits2 .ensures),
     )
 
 returns : tie.Need-returns Inv-loop μ-loop

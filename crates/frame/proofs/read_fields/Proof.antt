@@ -171,7 +171,9 @@ module _ {M : Type 1} (𝓤 : URA M) (H : Heap 𝓤) (A : Atoms 𝓤) (W : Given
       suffices ! _ (ends-at 𝓤 H A read-fields.ended stayed (read-fields.clauses 𝓤 H A mem run) W (((κ, tt), (q, tt), tt, (s, tt), (v ∷ [], tt)), tt) u r (tt, tt) (tt, tt)) $ says ! e $
       move ! (1 ∷ []) $ frame ! $ nothing ! $ move ! (2 ∷ 0 ∷ []) $ fjoin ! $ frame ! $ done !
 
-  module _ (C : Calls 𝓤 H) (Λ : Loops 𝓤 H) (fm : FmC 𝓤 H (W .laws) C) (known-new : Triple 𝓤 (C new-def.name) (New 𝓤 H A mem run)) (known-take : Triple 𝓤 (C take-def.name) (Take 𝓤 H A mem run)) (known-after : Triple 𝓤 (C after-def.name) (After 𝓤 H A mem run)) (known-kind : Triple 𝓤 (C kind-def.name) (ReadKind 𝓤 H A mem run)) where
+  module _ (C : Calls 𝓤 H) (Λ : Loops 𝓤 H) (fm : FmC 𝓤 H (W .laws) C) (known-new : Triple 𝓤 (C new-def.name) (New 𝓤 H A mem run))
+      (known-take : Triple 𝓤 (C take-def.name) (Take 𝓤 H A mem run)) (known-after : Triple 𝓤 (C after-def.name) (After 𝓤 H A mem run))
+      (known-kind : Triple 𝓤 (C kind-def.name) (ReadKind 𝓤 H A mem run)) where
     module _ {K : Type 0} {Γ : List (Item 𝓤)} {E : Env 𝓤 H} {xs : List Opd} {d : Place} {rest : Body} {end : Kept 𝓤 H} where
       -- w bits are taken at bit n, and the reader is kept
       takes : K → (n w : ℕ) (fits : w < 2 ^ 64) (u : Val) → (n + w ≤ 8 * length (now s)) × (w ≤ 32) → Opds K W (raw (Take 𝓤 H A mem run .pre (to-take n w fits u)) ∷ ‵ (Holding n u) ∷ Γ) E xs (u ∷ vint w64 w ∷ [])

@@ -28,8 +28,13 @@ loop-holds : tie.Need-loop-holds Inv-loop μ-loop
 unfolding pairsAt
 loop-holds c =
     let a = c .before .args in
-    let s = a .bytes .now in
-    (omega arith, rw (zero-mul (10 + a .width), add-zero (a .at)), refl, refl, rw (sub-zero (a .m)) (judged-all counted (pairsAt s (a .at) (a .width) (a .m)) ∙ ap (λ (t : Bool). pairsNumber t (pairsAt s (a .at) (a .width) (a .m))) (positive-all (pairsAt s (a .at) (a .width) (a .m)))))
+    let ps = pairsAt (a .bytes .now) (a .at) (a .width) (a .m) in (
+      omega arith,
+      rw (zero-mul (10 + a .width), add-zero (a .at)),
+      refl,
+      refl,
+      rw (sub-zero (a .m)) (judged-all counted ps ∙ ap (λ (t : Bool). pairsNumber t ps) (positive-all ps)),
+    )
 
 -- a turn's pair lies in the bytes
 fits : (c : tie.In-loop Inv-loop μ-loop) → let a = c .before .before .before .args in
