@@ -141,7 +141,7 @@ fn capacity_of(state: &[u8]) -> u32
     }
 }
 
-// A message joins the window: `had` slots from slot `gone` on before, `count` from slot `oldest` on stay.
+// A message joins the window in the slot after those that stay: never one that departs with it, which the queries still look at.
 fn join(
     state: &mut [u8],
     before: Cursor,
