@@ -6,7 +6,7 @@
  * own between calls: one memory is one engine. Forty boards are forty memories, and calls on different memories may run at the same time.
  *
  * In every call a slice is a pointer to bytes and their number. It may stand at any address. Where the number is 0 the pointer may be null.
- * In what a call writes into lent bytes, a number takes four bytes, the most significant first; the readers at the end of this file take them out.
+ * In what a call writes into lent output, a number takes four bytes, the most significant first; the readers at the end of this file take them out.
  *
  * A call is accepted, and returns 0, or is refused under the first number that applies, in the order given with each call. A refusal changes
  * nothing: not the state, not a byte of the output. Bytes past what a call writes are never changed either.

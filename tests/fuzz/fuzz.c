@@ -151,7 +151,8 @@ static uint8_t old[FENNELRAKE_STATE_SIZE]; /* the state before the frame */
 
 static uint32_t word(const uint8_t *bytes, size_t i)
 {
-    return fennelrake_word(bytes + 4 * i);
+    const uint8_t *b = bytes + 4 * i;
+    return b[0] | (uint32_t)b[1] << 8 | (uint32_t)b[2] << 16 | (uint32_t)b[3] << 24;
 }
 
 static const uint8_t *slot(const uint8_t *s, uint32_t j)
@@ -398,8 +399,8 @@ static void check_any_fields(const uint8_t *f, size_t length)
     if (n == 0)
         return;
     kind = f[0] % 8;
-    time = word(f, 1);
-    serial = word(f, 0) >> (f[8] % 32);
+    time = fennelrake_word(f + 4);
+    serial = fennelrake_word(f) >> (f[8] % 32);
     number = f[8] % 40;
     k = f[9] % 20;
     pairs = f[10] % 20;
@@ -547,7 +548,7 @@ static void damage(int steering, const uint8_t *how)
     else if (steering)
         i = RECORDS + RECORD * (how[1] % 32u) + how[0] % 20u;
     for (j = 0; j < 4; j++)
-        state.bytes[4 * i + j] = (uint8_t)(value >> (24 - 8 * j));
+        state.bytes[4 * i + j] = (uint8_t)(value >> 8 * j);
 }
 
 /*

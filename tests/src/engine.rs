@@ -54,6 +54,7 @@ impl Lent {
     }
 }
 
+/// A word of what a call wrote into lent output.
 pub fn word(bytes: &[u8], i: usize) -> u32 {
     u32::from_be_bytes(bytes[4 * i..4 * i + 4].try_into().unwrap())
 }
@@ -223,6 +224,11 @@ pub fn write_over(f: &Fields, held: &[u8]) -> Result<Vec<u8>, u32> {
 
 // ---- what the state memory keeps (docs/STATE.md)
 
+/// A word of the state memory.
+pub fn state_word(bytes: &[u8], i: usize) -> u32 {
+    u32::from_le_bytes(bytes[4 * i..4 * i + 4].try_into().unwrap())
+}
+
 /// The bytes of a query's record.
 pub fn record(state: &[u8], q: usize) -> &[u8] {
     &state[4 * (4888 + 60 * q)..4 * (4888 + 60 * (q + 1))]
@@ -236,15 +242,15 @@ pub struct Kept {
 /// What a registered query's record keeps: its thresholds, and its candidates by serial in the order of acceptance.
 pub fn kept(state: &[u8], q: usize) -> Option<Kept> {
     let r = record(state, q);
-    if word(r, 0) == 0 {
+    if state_word(r, 0) == 0 {
         return None;
     }
-    let n = word(r, 1) as usize;
-    let (oldest, count) = (word(state, 3) as usize, word(state, 4) as usize);
+    let n = state_word(r, 1) as usize;
+    let (oldest, count) = (state_word(state, 3) as usize, state_word(state, 4) as usize);
     let candidates = (0..count)
         .map(|i| (oldest + i) % 257)
-        .filter(|j| word(r, 51 + j / 32) >> (31 - j % 32) & 1 == 1)
-        .map(|j| word(state, 5 + 19 * j + 1))
+        .filter(|j| state_word(r, 51 + j / 32) >> (31 - j % 32) & 1 == 1)
+        .map(|j| state_word(state, 5 + 19 * j + 1))
         .collect();
-    Some(Kept { thresholds: (0..n).map(|i| word(r, 11 + i)).collect(), candidates })
+    Some(Kept { thresholds: (0..n).map(|i| state_word(r, 11 + i)).collect(), candidates })
 }

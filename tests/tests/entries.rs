@@ -203,7 +203,7 @@ fn foreign_memory() {
             let (n, term) = (r.pick(4, 64, 2049) as usize, r.pick(8, 1 << 32, 1024) as u32);
             engine::raw::postings(&mut state, term, &mut Lent::new(&r.bytes(n)));
             // the term of a cell as it stands there, so that there are postings
-            let term = engine::word(state.bytes(), 5 + 19 * r.below(257) as usize + 3 + r.below(16) as usize) / 4194304;
+            let term = engine::state_word(state.bytes(), 5 + 19 * r.below(257) as usize + 3 + r.below(16) as usize) / 4194304;
             engine::raw::postings(&mut state, term, &mut Lent::new(&r.bytes(n)));
         }
         // a start takes nothing from what the memory held
@@ -243,7 +243,7 @@ fn foreign(r: &mut Random, round: usize) -> Vec<u8> {
                 _ => 4888 + 60 * r.below(32) + r.below(20),
             } as usize;
             let word = [0, 1, 16, 17, 255, 256, 257, 1 << 31, u32::MAX - 1, u32::MAX][r.below(10) as usize];
-            bytes[4 * i..4 * i + 4].copy_from_slice(&u32::to_be_bytes(word));
+            bytes[4 * i..4 * i + 4].copy_from_slice(&u32::to_le_bytes(word));
         }
     }
     bytes

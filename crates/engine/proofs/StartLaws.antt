@@ -16,7 +16,7 @@ use Rattle.paper.specs.Window.{inForce, mostMessages, longestLife}
 use Rattle.paper.specs.Layout.{stateLength, recordAt, stateWords, capacityAt, lifeAt, clockAt, oldestAt, countAt}
 use Rattle.paper.proofs.Tests.{and-true}
 use Rattle.paper.proofs.LogLaws.{fresh-sound}
-use Rattle.memory.specs.Words.{words, putWord}
+use Rattle.memory.specs.Words.{fours, words, putWord}
 use Rattle.memory.proofs.WordLaws.{put-word, put-length}
 use Rattle.window.specs.Slot.{ring, stored, window}
 use Rattle.query.specs.Record.{HoldsAt}
@@ -34,7 +34,7 @@ pub zeros-all : (i : ℕ) (s : List ℕ) → i ≡ length s → zeros i ++ drop 
 zeros-all i s e = rw (e, drop-length s, append-nil) refl
 
 words-zeros : (n : ℕ) → words (zeros (4 * n)) ≡ zeros n
-unfolding words
+unfolding words fours
 words-zeros zero = refl
 words-zeros (suc n) = rw four (ap (λ (l : List ℕ). 0 ∷ l) (words-zeros n))
 

@@ -10,10 +10,10 @@ use lib.ListN.{length, getD, set, take, drop, replicate, length-append, length-d
 use lib.Seq.{take-all, take-at, drop-at, getD-drop, getD-set-same, getD-set-other, ext-getD}
 use borrow.Author.Tests.{ne-eqb}
 use Rattle.paper.specs.Frame.{mostListed}
-use Rattle.memory.specs.Words.{word, words, putWord}
+use Rattle.memory.specs.Words.{bigWords, putBig}
 use Rattle.memory.specs.Keeps.{Keeps, Stored}
-use Rattle.memory.proofs.WordLaws.{put-word, put-length, words-length}
-use Rattle.memory.proofs.KeepsLaws.{keeps-trans, keeps-wider, keeps-part, put-keeps}
+use Rattle.memory.proofs.WordLaws.{put-big, put-big-length, big-words-length, big-append}
+use Rattle.memory.proofs.KeepsLaws.{keeps-trans, keeps-wider, keeps-part, big-keeps}
 use Rattle.rank.specs.Listing.{listed, linesOf, Tidy}
 use Rattle.engine.specs.declared.Reply.{Reply}
 use Rattle.engine.specs.declared.Listing.{Listing}
@@ -40,28 +40,28 @@ frame-refused {s} {bytes} {a} {s′} {r} h nz p = record {
 
 -- marks and departures are written
 module _ (a a₁ a₂ : List ℕ) (r : Reply) (h : frameAnswer ≤ length a) (fm : Fits w32 (r .marks)) (fd : Fits w32 (r .departures))
-    (e₁ : a₁ ≡ putWord a 0 (r .marks)) (e₂ : a₂ ≡ putWord a₁ 1 (r .departures)) where
-  put-two : words a₂ ≡ set (set (words a) 0 (r .marks)) 1 (r .departures)
+    (e₁ : a₁ ≡ putBig a 0 (r .marks)) (e₂ : a₂ ≡ putBig a₁ 1 (r .departures)) where
+  put-two : bigWords a₂ ≡ set (set (bigWords a) 0 (r .marks)) 1 (r .departures)
   put-two =
       rw (e₂, e₁)
-      (put-word (putWord a 0 (r .marks)) 1 (r .departures) (omega (arith, put-length a 0 (r .marks))) (fd .fits)
-      ∙ ap (λ (w : List ℕ). set w 1 (r .departures)) (put-word a 0 (r .marks) (omega arith) (fm .fits)))
+      (put-big (putBig a 0 (r .marks)) 1 (r .departures) (omega (arith, put-big-length a 0 (r .marks))) (fd .fits)
+      ∙ ap (λ (w : List ℕ). set w 1 (r .departures)) (put-big a 0 (r .marks) (omega arith) (fm .fits)))
 
-  first-word : getD (words a₂) 0 0 ≡ r .marks
+  first-word : getD (bigWords a₂) 0 0 ≡ r .marks
   first-word =
-      let l = words-length a in
-      rw put-two (getD-set-other (set (words a) 0 (r .marks)) 1 0 (r .departures) 0 (omega arith) ∙ getD-set-same (words a) 0 (r .marks) 0 (omega arith))
+      let l = big-words-length a in
+      rw put-two (getD-set-other (set (bigWords a) 0 (r .marks)) 1 0 (r .departures) 0 (omega arith) ∙ getD-set-same (bigWords a) 0 (r .marks) 0 (omega arith))
 
-  second-word : getD (words a₂) 1 0 ≡ r .departures
+  second-word : getD (bigWords a₂) 1 0 ≡ r .departures
   second-word =
-      let l = words-length a in
-      rw put-two (getD-set-same (set (words a) 0 (r .marks)) 1 (r .departures) 0 (omega (arith, length-set (words a) 0 (r .marks))))
+      let l = big-words-length a in
+      rw put-two (getD-set-same (set (bigWords a) 0 (r .marks)) 1 (r .departures) 0 (omega (arith, length-set (bigWords a) 0 (r .marks))))
 
   two-keep : Keeps 0 frameAnswer a a₂
   two-keep =
       rw (e₂, e₁)
-      (keeps-trans (keeps-wider (omega arith) (omega arith) (put-keeps a 0 (r .marks)))
-      (keeps-wider (omega arith) (omega arith) (put-keeps (putWord a 0 (r .marks)) 1 (r .departures))))
+      (keeps-trans (keeps-wider (omega arith) (omega arith) (big-keeps a 0 (r .marks)))
+      (keeps-wider (omega arith) (omega arith) (big-keeps (putBig a 0 (r .marks)) 1 (r .departures))))
 
   two-past : drop frameAnswer a₂ ≡ drop frameAnswer a
   two-past =
@@ -113,42 +113,33 @@ list-refused {s} {a} {n} {r} h nz p = record {
       right = λ log is l. let t = p .right log is l in (t .0, none-listed ∙ sym (p .refused nz .0) ∙ t .1, none-tidy);
     }
 
--- the words of bytes that end with a word, and of what follows
-words-append : (s t : List ℕ) → length s % 4 ≡ 0 → words (s ++ t) ≡ words s ++ words t
-unfolding words
-words-append [] t h = refl
-words-append (a ∷ []) t h = absurd (omega arith)
-words-append (a ∷ b ∷ []) t h = absurd (omega arith)
-words-append (a ∷ b ∷ c ∷ []) t h = absurd (omega arith)
-words-append (a ∷ b ∷ c ∷ d ∷ s) t h = ap (λ (w : List ℕ). word a b c d ∷ w) (words-append s t (omega arith))
-
 -- the words of a list answer are the first, the serials and the scores
 in-three : (w : List ℕ) → 4 * length w ≡ listAnswer → w ≡ getD w 0 0 ∷ (take mostListed (drop 1 w) ++ take mostListed (drop (1 + mostListed) w))
 in-three [] h = absurd (omega arith)
 in-three (x ∷ w) h = rw (take-all mostListed (drop mostListed w) (simp length-drop (omega arith)), take-append-drop mostListed w)
 
 -- the number of entries, the serials and the scores are written
-pub list-words : (a : List ℕ) {a₁ w₂ w₃ serials scores : List ℕ} {count : ℕ} → length a ≡ listAnswer → Fits w32 count → a₁ ≡ putWord a 0 count
-    → Stored 1 mostListed serials (words a₁) w₂ → Stored (1 + mostListed) mostListed scores w₂ w₃ → w₃ ≡ count ∷ (serials ++ scores)
+pub list-words : (a : List ℕ) {a₁ w₂ w₃ serials scores : List ℕ} {count : ℕ} → length a ≡ listAnswer → Fits w32 count → a₁ ≡ putBig a 0 count
+    → Stored 1 mostListed serials (bigWords a₁) w₂ → Stored (1 + mostListed) mostListed scores w₂ w₃ → w₃ ≡ count ∷ (serials ++ scores)
 list-words a {a₁} {w₂} {w₃} {serials} {scores} {count} l f e p q =
-    let w₁ : words a₁ ≡ set (words a) 0 count = rw e (put-word a 0 count (omega arith) (f .fits)) in
-    let long : 4 * length (words a₁) ≡ listAnswer = rw w₁ (omega (arith, length-set (words a) 0 count, words-length a)) in
+    let w₁ : bigWords a₁ ≡ set (bigWords a) 0 count = rw e (put-big a 0 count (omega arith) (f .fits)) in
+    let long : 4 * length (bigWords a₁) ≡ listAnswer = rw w₁ (omega (arith, length-set (bigWords a) 0 count, big-words-length a)) in
     let first : getD w₃ 0 0 ≡ count =
-    q .keeps .below 0 (omega arith) ∙ p .keeps .below 0 (omega arith) ∙ rw w₁ (getD-set-same (words a) 0 count 0 (omega (arith, words-length a))) in
+    q .keeps .below 0 (omega arith) ∙ p .keeps .below 0 (omega arith) ∙ rw w₁ (getD-set-same (bigWords a) 0 count 0 (omega (arith, big-words-length a))) in
     let second : take mostListed (drop 1 w₃) ≡ serials = keeps-part (q .keeps) 1 mostListed (inl (omega arith)) ∙ p .reads in
     in-three w₃ (omega (arith, q .keeps .long, p .keeps .long)) ∙ rw (first, second, q .reads)
 
 module _ (part a : List ℕ) (r : Listing) (h : listAnswer ≤ length a) (lp : length part ≡ listAnswer) (ls : length (r .list .serials) ≡ mostListed)
-    (lc : length (r .list .scores) ≡ mostListed) (e : words part ≡ r .list .count ∷ (r .list .serials ++ r .list .scores)) where
-  heard-ranked : r .list ≡ heardRanked (words (part ++ drop listAnswer a))
+    (lc : length (r .list .scores) ≡ mostListed) (e : bigWords part ≡ r .list .count ∷ (r .list .serials ++ r .list .scores)) where
+  heard-ranked : r .list ≡ heardRanked (bigWords (part ++ drop listAnswer a))
   heard-ranked =
       let ss : List ℕ = r .list .serials in
       let cs : List ℕ = r .list .scores in
-      let rest : List ℕ = words (drop listAnswer a) in
+      let rest : List ℕ = bigWords (drop listAnswer a) in
       let first : take mostListed ((ss ++ cs) ++ rest) ≡ ss = rw append-assoc (take-at ss (cs ++ rest) mostListed ls) in
       let second : take mostListed (drop mostListed ((ss ++ cs) ++ rest)) ≡ cs =
       rw (append-assoc, drop-at ss (cs ++ rest) mostListed ls) (take-at cs rest mostListed lc) in
-      rw (words-append part (drop listAnswer a) (rw lp), e) (λ i. record { serials = sym first i; scores = sym second i; count = r .list .count })
+      rw (big-append part (drop listAnswer a) (rw lp), e) (λ i. record { serials = sym first i; scores = sym second i; count = r .list .count })
 
   pub list-accepted : {s : List ℕ} {n : ℕ} → r .number ≡ 0 → ListPost s n r → ListEntry s n a (r .number) (part ++ drop listAnswer a)
   list-accepted {s} {n} z p =

@@ -1,4 +1,4 @@
--- What the C entries promise, of what a host hears: the number returned, and the words of the lent answer.
+-- What the C entries promise, of what a host hears: the number returned, and the words of the lent answer, the most significant byte first.
 -- Document 01, "Replies". Assumes nothing.
 use Prim.Native.Nat.{ℕ, _+_, _*_, _/_, _%_, _≤_, _<_}
 use mathlib.Core.Path.{_≡_}
@@ -7,7 +7,7 @@ use mathlib.Core.List.{List, [], _∷_}
 use lib.ListN.{length, getD, take, drop, replicate}
 use lib.Dec.{eqb}
 use Rattle.paper.specs.Frame.{mostListed}
-use Rattle.memory.specs.Words.{words}
+use Rattle.memory.specs.Words.{bigWords}
 use Rattle.rank.specs.declared.Ranked.{Ranked}
 use Rattle.frame.specs.declared.Written.{Written}
 use Rattle.engine.specs.declared.Reply.{Reply}
@@ -34,8 +34,8 @@ pub record Output (written number : ℕ) (a a′ : List ℕ) : Type 0 where
 abbrev pub heardReply : ℕ → List ℕ → Reply
 heardReply r a = record {
   number = r;
-  marks = cond (eqb r 0) (getD (words a) 0 0) 0;
-  departures = cond (eqb r 0) (getD (words a) 1 0) 0;
+  marks = cond (eqb r 0) (getD (bigWords a) 0 0) 0;
+  departures = cond (eqb r 0) (getD (bigWords a) 1 0) 0;
 }
 
 -- "Where a C entry writes a frame's or a list's answer into lent bytes, too few of them is 12, judged with the state length."
@@ -54,7 +54,7 @@ abbrev pub noEntry : Ranked
 noEntry = record { serials = replicate mostListed 0; scores = replicate mostListed 0; count = 0 }
 
 abbrev pub heardListing : ℕ → List ℕ → Listing
-heardListing r a = record { number = r; list = cond (eqb r 0) (heardRanked (words a)) noEntry }
+heardListing r a = record { number = r; list = cond (eqb r 0) (heardRanked (bigWords a)) noEntry }
 
 pub record ListEntry (s : List ℕ) (n : ℕ) (a : List ℕ) (r : ℕ) (a′ : List ℕ) : Type 0 where
   pub short : length a < listAnswer → r ≡ 12

@@ -4,7 +4,7 @@ ghost use mathlib.Core.List.{_∷_, _++_};
 ghost use Prim.Native.Nat.{_+_, _*_, _≤_, _<_};
 ghost use lib.ListN.{length, take};
 ghost use Rattle.paper.specs.Write.{fromFields};
-ghost use Rattle.memory.specs.Words.{words};
+ghost use Rattle.memory.specs.Words.{bigWords};
 ghost use Rattle.frame.specs.Write.{fields, WritePost};
 ghost use Rattle.engine.specs.Post.{StartPost, PostingsPost};
 ghost use Rattle.fennelrake.specs.Entry.{listAnswer, FrameEntry, ListEntry, termsOf, heardFound, heardWriting};
@@ -36,18 +36,18 @@ pub extern "C" fn fennelrake_frame(state: &mut [u8], bytes: &[u8], answer: &mut 
     if reply.number != 0 {
         return reply.number;
     }
-    memory::put(answer, 0, reply.marks);
-    memory::put(answer, 1, reply.departures);
+    memory::put_big(answer, 0, reply.marks);
+    memory::put_big(answer, 1, reply.departures);
     reply.number
 }
 
 fn put_list(answer: &mut [u8], count: u32, serials: [u32; MOST_LISTED], scores: [u32; MOST_LISTED])
     requires { ⌜ length (now answer) ≡ listAnswer ⌝ }
-    ensures { λ _. ⌜ words (now (answer .exit)) ≡ count ∷ (serials ++ scores) ⌝ }
+    ensures { λ _. ⌜ bigWords (now (answer .exit)) ≡ count ∷ (serials ++ scores) ⌝ }
 {
-    memory::put(answer, 0, count);
-    memory::store16(answer, 1, serials);
-    memory::store16(answer, LIST_SCORES, scores);
+    memory::put_big(answer, 0, count);
+    memory::store16_big(answer, 1, serials);
+    memory::store16_big(answer, LIST_SCORES, scores);
 }
 
 // The answer: the number of entries, sixteen serials and sixteen scores, four bytes each.

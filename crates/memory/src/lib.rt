@@ -1,8 +1,8 @@
-// Lent memory as big-endian words of four bytes.
+// Lent memory as words of four bytes: state memory least significant byte first, what is written for a host most significant byte first.
 ghost use mathlib.Core.Path.{_≡_};
 ghost use Prim.Native.Nat.{_+_, _*_, _<_, _≤_};
 ghost use lib.ListN.{length, getD, take, drop};
-ghost use Rattle.memory.specs.Words.{words, putWord};
+ghost use Rattle.memory.specs.Words.{words, putWord, bigWords, putBig};
 ghost use Rattle.memory.specs.Keeps.{Stored};
 
 fn wide(x: u8) -> u32
@@ -21,7 +21,7 @@ pub fn get(s: &[u8], i: usize) -> u32
     let b = wide(s[at + 1]);
     let c = wide(s[at + 2]);
     let d = wide(s[at + 3]);
-    a * 16777216 + b * 65536 + c * 256 + d
+    a + b * 256 + c * 65536 + d * 16777216
 }
 
 // The word at index i becomes v.
@@ -30,10 +30,10 @@ pub fn put(s: &mut [u8], i: usize, v: u32)
     ensures { λ _. ⌜ now (s .exit) ≡ putWord (now (s .entry)) i v ⌝ }
 {
     let at = 4 * i;
-    s[at] = (v / 16777216 % 256) as u8;
-    s[at + 1] = (v / 65536 % 256) as u8;
-    s[at + 2] = (v / 256 % 256) as u8;
-    s[at + 3] = (v % 256) as u8;
+    s[at] = (v % 256) as u8;
+    s[at + 1] = (v / 256 % 256) as u8;
+    s[at + 2] = (v / 65536 % 256) as u8;
+    s[at + 3] = (v / 16777216 % 256) as u8;
 }
 
 // Eight words from index i on.
@@ -110,6 +110,43 @@ pub fn store16(s: &mut [u8], i: usize, a: [u32; 16])
     let mut n: usize = 0;
     while n < 16 {
         put(s, i + n, a[n]);
+        n += 1;
+    }
+}
+
+// The word at index i of what is written for a host.
+pub fn get_big(s: &[u8], i: usize) -> u32
+    requires { ⌜ 4 * i + 4 ≤ length (now s) ⌝ }
+    ensures { λ r. ⌜ r ≡ getD (bigWords (now (s .entry))) i 0 ⌝ }
+{
+    let at = 4 * i;
+    let first = wide(s[at]);
+    let second = wide(s[at + 1]);
+    let third = wide(s[at + 2]);
+    let last = wide(s[at + 3]);
+    first * 16777216 + second * 65536 + third * 256 + last
+}
+
+// The word at index i of what is written for a host becomes v.
+pub fn put_big(s: &mut [u8], i: usize, v: u32)
+    requires { ⌜ 4 * i + 4 ≤ length (now s) ⌝ }
+    ensures { λ _. ⌜ now (s .exit) ≡ putBig (now (s .entry)) i v ⌝ }
+{
+    let at = 4 * i;
+    s[at] = (v / 16777216 % 256) as u8;
+    s[at + 1] = (v / 65536 % 256) as u8;
+    s[at + 2] = (v / 256 % 256) as u8;
+    s[at + 3] = (v % 256) as u8;
+}
+
+// Sixteen words are written for a host, from index i on.
+pub fn store16_big(s: &mut [u8], i: usize, a: [u32; 16])
+    requires { ⌜ 4 * (i + 16) ≤ length (now s) ⌝ }
+    ensures { λ _. ⌜ Stored i 16 a (bigWords (now (s .entry))) (bigWords (now (s .exit))) ⌝ }
+{
+    let mut n: usize = 0;
+    while n < 16 {
+        put_big(s, i + n, a[n]);
         n += 1;
     }
 }

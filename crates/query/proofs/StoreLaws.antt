@@ -13,7 +13,7 @@ use Rattle.memory.specs.Words.{words, putWord}
 use Rattle.memory.specs.Keeps.{Keeps, Stored}
 use Rattle.memory.proofs.WordLaws.{words-length, put-word}
 use Rattle.memory.proofs.KeepsLaws.{keeps-refl, keeps-trans, keeps-wider, keeps-set, keeps-at, keeps-part}
-use Rattle.memory.proofs.ArrayLaws.{Storing, storing-more}
+use Rattle.memory.proofs.ArrayLaws.{Storing, storing-word}
 use Rattle.rank.specs.declared.Ranked.{Ranked}
 use Rattle.query.specs.Post.{StoredKept, Cleared}
 
@@ -60,8 +60,8 @@ zeros-at i h = getD-replicate recordWords i 0 0 h
 
 -- one more
 pub zeros-more : {at i : ℕ} {s₀ s s′ : List ℕ} → 4 * (at + recordWords) ≤ length s₀ → i < recordWords → s′ ≡ putWord s (at + i) 0
-    → Storing recordWords at i zeros s₀ s → Storing recordWords at (i + 1) zeros s₀ s′
-zeros-more {at} {i} h k e p = let z = zeros-at i k in storing-more h k (rw z (search needs)) (rw z e) p
+    → Storing words recordWords at i zeros s₀ s → Storing words recordWords at (i + 1) zeros s₀ s′
+zeros-more {at} {i} h k e p = let z = zeros-at i k in storing-word h k (rw z (search needs)) (rw z e) p
 
 pub cleared : {q : ℕ} {w w′ : List ℕ} → Stored (recordAt q) recordWords zeros w w′ → Cleared w q w′
 cleared {q} {w} {w′} p = record {

@@ -3,12 +3,12 @@ use native.Mathlib.Omega.{arith}
 use mathlib.Core.Path.{refl}
 use lib.ListN.{length-set}
 use borrow.Author.Needs.{needs}
-use Rattle.memory.specs.Words.{putWord}
+use Rattle.memory.specs.Words.{putFour, putWord}
 use Rattle.memory.proofs.put.Statement.{statement}
 use Rattle.memory.proofs.put.Tie as tie
 
 returns : tie.Need-returns
-unfolding putWord
+unfolding putFour putWord
 returns c = refl
 
 pub put-spec : {M : Type 1} → statement M

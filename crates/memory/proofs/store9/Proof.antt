@@ -2,12 +2,13 @@
 use Prim.Native.Nat.{_-_}
 use native.Mathlib.Omega.{arith}
 use borrow.Author.Needs.{needs}
-use Rattle.memory.proofs.ArrayLaws.{Storing, storing-none, storing-more, storing-all}
+use Rattle.memory.specs.Words.{words}
+use Rattle.memory.proofs.ArrayLaws.{Storing, storing-none, storing-word, storing-all}
 use Rattle.memory.proofs.store9.Statement.{statement}
 use Rattle.memory.proofs.store9.Tie as tie
 
 abbrev Inv-loop : tie.InvT-loop
-Inv-loop s₀ i a n₀ s n = Storing 9 i n a s₀ s
+Inv-loop s₀ i a n₀ s n = Storing words 9 i n a s₀ s
 
 abbrev μ-loop : tie.MeasureT-loop
 μ-loop s₀ i a n₀ s n = 9 - n
@@ -25,7 +26,7 @@ store9-spec =
     (λ c κs. search needs)
     (λ c. search needs)
     (λ c. search needs)
-    (λ c. storing-more (omega arith) (omega arith) (search needs) (c .before .before .put .ensures)
+    (λ c. storing-word (omega arith) (omega arith) (search needs) (c .before .before .put .ensures)
     (c .before .before .before .before .before .loop .inv))
     (λ c. search needs)
     (λ c. storing-all (omega arith) (c .before .loop .inv)))

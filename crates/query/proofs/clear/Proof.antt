@@ -3,13 +3,14 @@ use Prim.Native.Nat.{_-_}
 use native.Mathlib.Omega.{arith}
 use borrow.Author.Needs.{needs}
 use Rattle.paper.specs.Layout.{recordAt, recordWords}
+use Rattle.memory.specs.Words.{words}
 use Rattle.memory.proofs.ArrayLaws.{Storing, storing-none, storing-all}
 use Rattle.query.proofs.StoreLaws.{zeros, zeros-length, zeros-more, cleared}
 use Rattle.query.proofs.clear.Statement.{statement}
 use Rattle.query.proofs.clear.Tie as tie
 
 abbrev Inv-loop : tie.InvT-loop
-Inv-loop state₀ q at i₀ state i = Storing recordWords (recordAt q) i zeros state₀ state
+Inv-loop state₀ q at i₀ state i = Storing words recordWords (recordAt q) i zeros state₀ state
 
 abbrev μ-loop : tie.MeasureT-loop
 μ-loop state₀ q at i₀ state i = recordWords - i

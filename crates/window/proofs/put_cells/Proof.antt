@@ -8,14 +8,15 @@ use Rattle.paper.specs.Frame.{termWidth, countWidth}
 use Rattle.paper.specs.Impact.{impact}
 use Rattle.paper.specs.Write.{side-by-side}
 use Rattle.paper.proofs.ImpactLaws.{impact-most}
-use Rattle.memory.proofs.ArrayLaws.{Storing, storing-none, storing-more, storing-all}
+use Rattle.memory.specs.Words.{words}
+use Rattle.memory.proofs.ArrayLaws.{Storing, storing-none, storing-word, storing-all}
 use Rattle.impact.specs.Cell.{packed, cellsOf}
 use Rattle.window.proofs.SlotLaws.{cells-length, cell-at}
 use Rattle.window.proofs.put_cells.Statement.{statement}
 use Rattle.window.proofs.put_cells.Tie as tie
 
 abbrev Inv-loop : tie.InvT-loop
-Inv-loop state₀ at m terms counts squares i₀ state i = Storing m at i (cellsOf (side-by-side m terms counts)) state₀ state
+Inv-loop state₀ at m terms counts squares i₀ state i = Storing words m at i (cellsOf (side-by-side m terms counts)) state₀ state
 
 abbrev μ-loop : tie.MeasureT-loop
 μ-loop state₀ at m terms counts squares i₀ state i = m - i
@@ -58,7 +59,7 @@ loop-again : tie.Need-loop-again Inv-loop μ-loop
 loop-again c =
     let put = c .before .before in
     let e = cell-is (put .before .before) in
-    storing-more (omega arith) (omega arith) (rw (← e) (search needs)) (rw (← e) (put .put .ensures)) (put .before .before .before .before .before .loop .inv)
+    storing-word (omega arith) (omega arith) (rw (← e) (search needs)) (rw (← e) (put .put .ensures)) (put .before .before .before .before .before .loop .inv)
 
 pub put-cells-spec : {M : Type 1} → statement M
 put-cells-spec =
