@@ -1,6 +1,7 @@
 //! The engine's own method in plain Rust: thresholds, candidates and the list of each query, updated where a frame reaches it.
 
-use crate::plain::{keep, Entry, Look, Message, Query, Upkeep, Window, TOP};
+use crate::count::Tally;
+use crate::plain::{keep, pass, Entry, Look, Message, Queries, Query, Upkeep, Window, TOP};
 use std::marker::PhantomData;
 
 /// A set of terms.
@@ -31,27 +32,32 @@ impl Looked {
     }
 }
 
-struct Kept {
-    query: Query,
-    thresholds: [u32; 8],
+pub struct Kept {
+    pub query: Query,
+    pub thresholds: [u32; 8],
     /// Places of the messages that exceed a threshold, oldest first.
-    candidates: Vec<u64>,
-    list: Vec<Entry>,
+    pub candidates: Vec<u64>,
+    pub list: Vec<Entry>,
 }
 
 impl Kept {
+    pub fn new(q: Query) -> Self {
+        let list = Vec::with_capacity(q.k);
+        Kept { query: q, thresholds: [0; 8], candidates: Vec::new(), list }
+    }
+
     /// Whether the message exceeds a threshold; all eight are compared, without a branch.
     fn is_exceeded(&self, l: &Looked) -> bool {
         (0..8).fold(false, |found, i| found | (l.impacts[i] > self.thresholds[i]))
     }
 
     /// The last score of a full list.
-    fn last(&self) -> Option<u32> {
+    pub fn last(&self) -> Option<u32> {
         (self.list.len() == self.query.k).then(|| self.list[self.query.k - 1].score)
     }
 
     /// Raises the thresholds until none could be one higher: by equal shares, then the first ones by all that is left.
-    fn raise(&mut self, last: u32) {
+    pub fn raise(&mut self, last: u32) {
         for parts in [self.query.n as u32, 1] {
             let mut left = last - 1 - self.query.weigh(&self.thresholds);
             let share = left / parts;
@@ -90,76 +96,67 @@ impl Kept {
         self.finish(looked);
     }
 
-    /// From the candidates, or from the whole window where a message that isn't one could be listed.
-    fn settle<L: Look>(&mut self, w: &Window, first: u64, looked: &mut Vec<Looked>) {
+    /// From the candidates, or from the whole window where a message that isn't one could be listed; whether it was the window.
+    fn settle<L: Look>(&mut self, w: &Window, looked: &mut Vec<Looked>) -> bool {
+        let first = w.first();
         looked.clear();
         looked.extend(self.candidates.iter().map(|p| Looked::new::<L>(&w.messages[(p - first) as usize], &self.query)));
         self.rank(looked);
         let sum = self.query.weigh(&self.thresholds);
-        if sum == 0 || self.last().is_some_and(|last| sum < last) {
+        let safe = sum == 0 || self.last().is_some_and(|last| sum < last);
+        if safe {
             self.finish(looked);
         } else {
             self.refill::<L>(w, looked);
         }
+        !safe
     }
 }
 
-pub struct Eager<L> {
-    queries: [Option<Kept>; 32],
+#[derive(Default)]
+pub struct Eager<L, T = ()> {
     /// Kept from one query to the next for its room alone.
     looked: Vec<Looked>,
+    pub tally: T,
     look: PhantomData<L>,
 }
 
-impl<L> Default for Eager<L> {
-    fn default() -> Self {
-        Eager { queries: Default::default(), looked: Vec::new(), look: PhantomData }
-    }
-}
+impl<L: Look, T: Tally> Upkeep for Eager<L, T> {
+    type Kept = Kept;
 
-impl<L: Look> Upkeep for Eager<L> {
-    fn register(&mut self, number: usize, q: Query, w: &Window) {
-        let list = Vec::with_capacity(q.k);
-        let mut kept = Kept { query: q, thresholds: [0; 8], candidates: Vec::new(), list };
+    fn register(&mut self, _: usize, q: Query, w: &Window) -> Kept {
+        let mut kept = Kept::new(q);
         kept.refill::<L>(w, &mut self.looked);
-        self.queries[number] = Some(kept);
+        kept
     }
 
-    fn forget(&mut self, number: usize) {
-        self.queries[number] = None;
-    }
-
-    fn in_use(&self, number: usize) -> bool {
-        self.queries[number].is_some()
-    }
-
-    fn moved(&mut self, arrived: bool, w: &Window) -> usize {
-        let newest = if arrived { w.messages.back() } else { None };
-        let first = w.messages.front().map_or(u64::MAX, |m| m.place);
-        let terms = Terms::of(w.departed.iter().chain(newest).flat_map(|m| m.terms()));
+    fn moved(&mut self, queries: &mut Queries<Kept>, w: &Window) -> usize {
+        let terms = Terms::of(w.moved().flat_map(|m| m.terms()));
         let mut reached = 0;
-        for kept in self.queries.iter_mut().flatten() {
+        for kept in queries.iter_mut().flatten() {
             if !terms.has_any(kept.query.terms()) {
                 continue;
             }
             self.looked.clear();
-            self.looked.extend(w.departed.iter().chain(newest).map(|m| Looked::new::<L>(m, &kept.query)));
+            self.looked.extend(w.moved().map(|m| Looked::new::<L>(m, &kept.query)));
             if !self.looked.iter().any(|l| kept.is_exceeded(l)) {
                 continue;
             }
             reached += 1;
-            let gone = kept.candidates.iter().take_while(|p| **p < first).count();
-            kept.candidates.drain(..gone);
-            kept.candidates.extend(self.looked.last().filter(|l| arrived && kept.is_exceeded(l)).map(|l| l.entry.place));
+            let came = self.looked.last().filter(|l| w.newest().is_some() && kept.is_exceeded(l)).map(|l| l.entry.place);
+            pass(&mut kept.candidates, w, came);
             let stands = kept.last().is_some_and(|last| self.looked.iter().all(|l| l.entry.score < last));
             if !stands {
-                kept.settle::<L>(w, first, &mut self.looked);
+                self.tally.ranked(kept.candidates.len());
+                if kept.settle::<L>(w, &mut self.looked) {
+                    self.tally.refilled();
+                }
             }
         }
         reached
     }
 
-    fn list(&self, number: usize) -> &[Entry] {
-        &self.queries[number].as_ref().unwrap().list
+    fn list(kept: &Kept) -> &[Entry] {
+        &kept.list
     }
 }

@@ -1,9 +1,10 @@
 //! The Naive method of document 001, section 3.2: a longer list, up to k_max = k + √N, ranked afresh once fewer than k are left.
 
-use crate::plain::{keep, rank, Entry, Look, Message, Query, Upkeep, Window};
+use crate::count::Tally;
+use crate::plain::{keep, rank, Entry, Look, Message, Queries, Query, Upkeep, Window};
 use std::marker::PhantomData;
 
-struct Kept {
+pub struct Kept {
     query: Query,
     longest: usize,
     /// The best of all messages in force, or all of those of positive score where `whole` holds: then there is nothing to rank afresh.
@@ -32,50 +33,39 @@ impl Kept {
     }
 }
 
-pub struct Naive<L> {
-    queries: [Option<Kept>; 32],
+#[derive(Default)]
+pub struct Naive<L, T = ()> {
+    pub tally: T,
     look: PhantomData<L>,
 }
 
-impl<L> Default for Naive<L> {
-    fn default() -> Self {
-        Naive { queries: Default::default(), look: PhantomData }
-    }
-}
+impl<L: Look, T: Tally> Upkeep for Naive<L, T> {
+    type Kept = Kept;
 
-impl<L: Look> Upkeep for Naive<L> {
-    fn register(&mut self, number: usize, q: Query, w: &Window) {
+    fn register(&mut self, _: usize, q: Query, w: &Window) -> Kept {
         let longest = q.k + w.capacity.isqrt();
         let mut kept = Kept { query: q, longest, list: Vec::with_capacity(longest), whole: false };
         kept.refill::<L>(w);
-        self.queries[number] = Some(kept);
+        kept
     }
 
-    fn forget(&mut self, number: usize) {
-        self.queries[number] = None;
-    }
-
-    fn in_use(&self, number: usize) -> bool {
-        self.queries[number].is_some()
-    }
-
-    fn moved(&mut self, arrived: bool, w: &Window) -> usize {
+    fn moved(&mut self, queries: &mut Queries<Kept>, w: &Window) -> usize {
         let mut reached = 0;
-        for kept in self.queries.iter_mut().flatten() {
-            if arrived {
-                kept.arrived(w.messages.back().unwrap().entry::<L>(&kept.query));
+        for kept in queries.iter_mut().flatten() {
+            if let Some(m) = w.newest() {
+                kept.arrived(m.entry::<L>(&kept.query));
             }
             w.departed.iter().for_each(|m| kept.departed(m));
             if !kept.whole && kept.list.len() < kept.query.k {
                 kept.refill::<L>(w);
+                self.tally.refilled();
             }
             reached += 1;
         }
         reached
     }
 
-    fn list(&self, number: usize) -> &[Entry] {
-        let kept = self.queries[number].as_ref().unwrap();
+    fn list(kept: &Kept) -> &[Entry] {
         &kept.list[..kept.list.len().min(kept.query.k)]
     }
 }

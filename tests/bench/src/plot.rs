@@ -1,7 +1,7 @@
 //! The ratios of the largest windows as bars, on a scale of powers of ten.
 
+use crate::measure::Row;
 use crate::workload::SHARED;
-use crate::Row;
 use std::fmt::Write;
 
 const NAMES: [&str; 6] =
@@ -51,7 +51,7 @@ fn legend(out: &mut String) {
 pub fn svg(rows: &[Row]) -> String {
     let capacity = rows.iter().map(|r| r.setting.capacity).max().unwrap();
     let largest: Vec<&Row> = rows.iter().filter(|r| r.setting.capacity == capacity).collect();
-    let logs = || largest.iter().flat_map(|r| r.ratios).map(f64::log10);
+    let logs = || largest.iter().flat_map(|r| &r.ratios[..NAMES.len()]).map(|r| r.log10());
     // half powers of ten
     let (low, high) = (logs().fold(0.0, |a, l| (2.0 * l).floor().min(a)) / 2.0, logs().fold(0.0, |a, l| (2.0 * l).ceil().max(a)) / 2.0);
     let panels: Vec<_> = SHARED.iter().filter(|(_, shared)| *shared != "some").collect();

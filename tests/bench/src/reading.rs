@@ -24,7 +24,7 @@ fn pairs(n: u32) -> Vec<(u32, u32)> {
 pub fn print() {
     let mut engine = Proved::start(256, 65535);
     engine.frame(&Frame::Tick { time: u32::MAX }.bytes()).expect("an accepted tick");
-    println!("frame                  proved    plain    ratio");
+    println!("| frame | proved, nanoseconds | plain, nanoseconds | ratio |\n|---|---|---|---|");
     for (name, frame) in [
         ("message of 16 pairs", Frame::Message { time: 123_456, serial: 98_765, pairs: pairs(16) }),
         ("message of 8 pairs", Frame::Message { time: 123_456, serial: 98_765, pairs: pairs(8) }),
@@ -37,6 +37,6 @@ pub fn print() {
             proved = proved.min(nanoseconds(|| assert_eq!(engine.frame(black_box(&bytes)), Err(7))));
             plain = plain.min(nanoseconds(|| assert!(black_box(&read(black_box(&bytes))).is_ok())));
         }
-        println!("{name:<19} {proved:>9.1} {plain:>8.1} {:>8.2}", plain / proved);
+        println!("| {name} | {proved:.1} | {plain:.1} | {:.2} |", plain / proved);
     }
 }

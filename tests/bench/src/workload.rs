@@ -6,6 +6,9 @@ use passage::Frame;
 /// How many terms there are in all, and how many of them messages and queries then share.
 pub const SHARED: [(u64, &str); 3] = [(1024, "few"), (400, "some"), (40, "many")];
 
+/// How many messages are measured, once the window is full.
+pub const MESSAGES: usize = 4000;
+
 const SEED: u64 = 7;
 
 #[derive(Clone, Copy)]
@@ -18,7 +21,7 @@ pub struct Setting {
 pub struct Passage {
     pub setting: Setting,
     pub life: u32,
-    pub frames: Vec<Vec<u8>>,
+    frames: Vec<Vec<u8>>,
 }
 
 /// Up to n terms, each with an amount of 1 to `most`.
@@ -30,6 +33,7 @@ fn rising(r: &mut Random, n: u64, terms: u64, most: u64) -> Vec<(u32, u32)> {
 }
 
 impl Passage {
+    /// With so many messages after those that fill the window.
     pub fn new(setting: Setting, messages: usize) -> Self {
         let mut r = Random::new(SEED);
         let mut frames = Vec::new();
@@ -37,10 +41,15 @@ impl Passage {
             let (k, n) = (1 + r.below(8) as usize, 1 + r.below(5));
             frames.push(Frame::Register { time: 0, number, k, terms: rising(&mut r, n, setting.terms, 15) }.bytes());
         }
-        for i in 0..messages as u32 {
+        for i in 0..(setting.capacity + messages) as u32 {
             let n = 4 + r.below(9);
             frames.push(Frame::Message { time: i + 1, serial: i, pairs: rising(&mut r, n, setting.terms, 9) }.bytes());
         }
         Passage { setting, life: 65535, frames }
+    }
+
+    /// The frames that fill the window, and those after them, which are measured.
+    pub fn split(&self) -> (&[Vec<u8>], &[Vec<u8>]) {
+        self.frames.split_at(self.setting.queries + self.setting.capacity)
     }
 }

@@ -1,0 +1,123 @@
+//! The methods run in turn over the same frames, and their times beside the proved engine's.
+
+use crate::eager::Eager;
+use crate::full::Full;
+use crate::gaps::StoredGaps;
+use crate::naive::Naive;
+use crate::plain::{Method, Plain, Walk, Wide};
+use crate::proved::Proved;
+use crate::tables::Tables;
+use crate::workload::{Passage, Setting};
+use std::time::Instant;
+
+/// How many messages make a part: of each part the best round counts, as others may use the machine.
+const PART: usize = 10;
+
+/// A round runs every method once; the slow ones are left out of the later rounds.
+const ROUNDS: usize = 15;
+const SLOW_ROUNDS: usize = 6;
+
+pub struct Run {
+    /// Part by part.
+    seconds: Vec<f64>,
+    /// How many queries the frames reached in all, and how many frames reached none.
+    reached: usize,
+    idle: usize,
+    lists: Vec<Vec<(u32, u32)>>,
+}
+
+/// The passage taken in by so many engines, each frame by one after the other.
+fn run<M: Method>(p: &Passage, boards: usize) -> Run {
+    let mut boards: Vec<M> = (0..boards).map(|_| M::start(p.setting.capacity, p.life)).collect();
+    let (before, measured) = p.split();
+    for f in before {
+        boards.iter_mut().for_each(|m| assert!(m.frame(f).is_ok()));
+    }
+    let (mut seconds, mut reached, mut idle) = (Vec::new(), 0, 0);
+    for frames in measured.chunks(PART) {
+        let t = Instant::now();
+        for f in frames {
+            for m in &mut boards {
+                let queries = m.frame(f).expect("an accepted frame");
+                reached += queries;
+                idle += (queries == 0) as usize;
+            }
+        }
+        seconds.push(t.elapsed().as_secs_f64());
+    }
+    Run { seconds, reached, idle, lists: boards.iter().flat_map(|m| (0..p.setting.queries).map(|q| m.list(q))).collect() }
+}
+
+/// The best rounds of a method, part by part.
+#[derive(Clone, Default)]
+struct Best(Vec<f64>);
+
+impl Best {
+    fn of(&mut self, r: &Run) {
+        self.0.resize(r.seconds.len(), f64::MAX);
+        self.0.iter_mut().zip(&r.seconds).for_each(|(least, s)| *least = s.min(*least));
+    }
+
+    fn seconds(&self) -> f64 {
+        self.0.iter().sum()
+    }
+}
+
+pub struct Rival {
+    pub name: &'static str,
+    run: fn(&Passage, usize) -> Run,
+    slow: bool,
+    /// Whether its thresholds are chosen as the proved engine's are: then it reaches as many queries.
+    same: bool,
+}
+
+/// The rivals in the tables' order.
+pub const RIVALS: [Rival; 8] = [
+    Rival { name: "full re-rank, walk", run: run::<Plain<Full<Walk>>>, slow: true, same: false },
+    Rival { name: "full re-rank, wide", run: run::<Plain<Full<Wide>>>, slow: true, same: false },
+    Rival { name: "Naive, walk", run: run::<Plain<Naive<Walk>>>, slow: false, same: false },
+    Rival { name: "Naive, wide", run: run::<Plain<Naive<Wide>>>, slow: false, same: false },
+    Rival { name: "eager, walk", run: run::<Plain<Eager<Walk>>>, slow: false, same: true },
+    Rival { name: "eager, wide", run: run::<Plain<Eager<Wide>>>, slow: false, same: true },
+    Rival { name: "tables", run: run::<Plain<Tables>>, slow: false, same: true },
+    Rival { name: "stored gaps", run: run::<Plain<StoredGaps>>, slow: false, same: false },
+];
+
+/// A setting's measurements.
+pub struct Row {
+    pub setting: Setting,
+    /// Of each of the proved engines.
+    pub messages_per_second: f64,
+    /// Of each rival: its time over the proved engine's.
+    pub ratios: Vec<f64>,
+    /// The share of frames that reach no query.
+    pub idle: f64,
+}
+
+/// So many messages taken in by so many engines of each method.
+pub fn measured(setting: Setting, messages: usize, boards: usize, rivals: &[Rival]) -> Row {
+    let p = Passage::new(setting, messages);
+    let mut best = Best::default();
+    let mut bests = vec![Best::default(); rivals.len()];
+    let mut idle = 0;
+    for round in 0..ROUNDS {
+        let proved = run::<Proved>(&p, boards);
+        best.of(&proved);
+        idle = proved.idle;
+        for (rival, best) in rivals.iter().zip(&mut bests) {
+            if round < SLOW_ROUNDS || !rival.slow {
+                let r = (rival.run)(&p, boards);
+                assert!(r.lists == proved.lists, "{}: the lists differ", rival.name);
+                assert!(!rival.same || r.reached == proved.reached, "{}: another method, as other queries are reached", rival.name);
+                best.of(&r);
+            }
+        }
+    }
+    let seconds = best.seconds();
+    Row {
+        setting,
+        messages_per_second: messages as f64 / seconds,
+        ratios: bests.iter().map(|b| b.seconds() / seconds).collect(),
+        idle: idle as f64 / (messages * boards) as f64,
+    }
+}

@@ -1,0 +1,74 @@
+//! The tables of a run, and the plot.
+
+use crate::measure::{measured, Row, RIVALS};
+use crate::workload::{Setting, MESSAGES, SHARED};
+use crate::{plot, reading};
+
+/// The classroom: so many engines on one machine, each taking in so many messages.
+const BOARDS: usize = 40;
+const BOARD_MESSAGES: usize = 400;
+
+/// The rivals of the first table end here, and those of the others, without the full re-rank, start here.
+const FIRST: usize = 6;
+const QUICK: usize = 2;
+
+fn line(cells: &[String]) {
+    println!("| {} |", cells.join(" | "));
+}
+
+/// The head of a table: what rows are known by, the rivals' names, and what comes after.
+fn head(before: &[&str], rivals: std::ops::Range<usize>, after: &[&str]) {
+    let names = RIVALS[rivals].iter().map(|r| r.name);
+    let cells: Vec<_> = before.iter().copied().chain(names).chain(after.iter().copied()).map(String::from).collect();
+    line(&cells);
+    println!("|{}", "---|".repeat(cells.len()));
+}
+
+fn two_digits(ratios: &[f64]) -> Vec<String> {
+    ratios.iter().map(|r| format!("{r:.2}")).collect()
+}
+
+fn all_settings() -> Vec<Row> {
+    head(&["shared terms", "N", "queries"], 0..FIRST, &["frames that reach no query"]);
+    let mut rows = Vec::new();
+    for (terms, shared) in SHARED {
+        for capacity in [16, 64, 256] {
+            for queries in [1, 8, 32] {
+                let row = measured(Setting { capacity, queries, terms }, MESSAGES, 1, &RIVALS);
+                let known = vec![shared.into(), capacity.to_string(), queries.to_string()];
+                line(&[known, two_digits(&row.ratios[..FIRST]), vec![format!("{:.1} %", 100.0 * row.idle)]].concat());
+                rows.push(row);
+            }
+        }
+    }
+    rows
+}
+
+fn quick_head(speed: &str) {
+    head(&["shared terms", "queries", speed], QUICK..RIVALS.len(), &[]);
+}
+
+/// A row with the proved engine's speed and the ratios of the last rivals, those from QUICK on.
+fn quick_line(row: &Row) {
+    let shared = SHARED.iter().find(|(terms, _)| *terms == row.setting.terms).map_or("", |(_, shared)| shared);
+    let known = vec![shared.into(), row.setting.queries.to_string(), format!("{:.0}", row.messages_per_second)];
+    line(&[known, two_digits(&row.ratios[row.ratios.len() + QUICK - RIVALS.len()..])].concat());
+}
+
+/// Prints all tables, and writes the plot to the path.
+pub fn print(path: &str) {
+    println!("Ratios: the rival's time over the proved engine's for the same frames, so ABOVE 1 THE PROVED ENGINE IS FASTER.\n");
+    let rows = all_settings();
+    println!("\nN 256, with the strongest unverified forms:\n");
+    quick_head("messages per second");
+    rows.iter().filter(|r| r.setting.capacity == 256).for_each(quick_line);
+    println!("\nThe classroom: {BOARDS} engines, N 256, each frame taken in by one after the other:\n");
+    quick_head("messages per second for each");
+    for queries in [1, 32] {
+        let setting = Setting { capacity: 256, queries, terms: SHARED[0].0 };
+        quick_line(&measured(setting, BOARD_MESSAGES, BOARDS, &RIVALS[QUICK..]));
+    }
+    println!("\nReading a frame alone; the ratio is the plain reader's time over the proved one's:\n");
+    reading::print();
+    std::fs::write(path, plot::svg(&rows)).unwrap_or_else(|e| panic!("{path}: {e}"));
+}
