@@ -28,7 +28,7 @@ struct Looked {
 impl Looked {
     fn new<L: Look>(m: &Message, q: &Query) -> Self {
         let impacts = L::impacts(m, q);
-        Looked { entry: Entry { score: q.weigh(&impacts), place: m.place, serial: m.serial }, impacts }
+        Looked { entry: m.entry(q.weigh(&impacts)), impacts }
     }
 }
 
@@ -56,8 +56,18 @@ impl Kept {
         (self.list.len() == self.query.k).then(|| self.list[self.query.k - 1].score)
     }
 
-    /// Raises the thresholds until none could be one higher: by equal shares, then the first ones by all that is left.
-    pub fn raise(&mut self, last: u32) {
+    /// Whether the list ranked from the candidates is that of all messages.
+    pub fn is_safe(&self) -> bool {
+        let sum = self.query.weigh(&self.thresholds);
+        sum == 0 || self.last().is_some_and(|last| sum < last)
+    }
+
+    /// Raises the thresholds until none could be one higher: by equal shares, then the first ones by all that is left. A short list's are 0.
+    pub fn raise(&mut self) {
+        let Some(last) = self.last() else {
+            self.thresholds = [0; 8];
+            return;
+        };
         for parts in [self.query.n as u32, 1] {
             let mut left = last - 1 - self.query.weigh(&self.thresholds);
             let share = left / parts;
@@ -76,10 +86,7 @@ impl Kept {
 
     /// The list ranked from these messages stands; thresholds and candidates follow from it.
     fn finish(&mut self, looked: &[Looked]) {
-        match self.last() {
-            Some(last) => self.raise(last),
-            None => self.thresholds = [0; 8],
-        }
+        self.raise();
         let mut candidates = std::mem::take(&mut self.candidates);
         candidates.clear();
         candidates.extend(looked.iter().filter(|l| self.is_exceeded(l)).map(|l| l.entry.place));
@@ -102,8 +109,7 @@ impl Kept {
         looked.clear();
         looked.extend(self.candidates.iter().map(|p| Looked::new::<L>(&w.messages[(p - first) as usize], &self.query)));
         self.rank(looked);
-        let sum = self.query.weigh(&self.thresholds);
-        let safe = sum == 0 || self.last().is_some_and(|last| sum < last);
+        let safe = self.is_safe();
         if safe {
             self.finish(looked);
         } else {

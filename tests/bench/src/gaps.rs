@@ -1,8 +1,8 @@
 //! The eager method with more stored: for each term the gap about its threshold, for each query a few entries past its list, for each message the
 //! queries that it shares a term with.
 //!
-//! No impact in force lies strictly inside a gap. So a threshold may move within it and no candidate changes, and a message that is no candidate scores
-//! no more than the gaps' lower ends do: most changes of a list's last score only move thresholds, and few take a look at the window.
+//! No impact in force lies strictly inside a gap. So a threshold may move within it and no candidate changes, and what is no candidate scores no more
+//! than the gaps' lower ends do: most changes of a list's last score only move thresholds, and few take a look at the window.
 
 use crate::plain::{keep, pass, Entry, Queries, Query, Upkeep, Window, TOP};
 use crate::rows::{Gaps, Looked, Meeting, Moved};
@@ -31,24 +31,13 @@ struct View<'a> {
 }
 
 impl Kept {
-    /// Whether a moved impact lies above the lower end of a gap; if none does, none exceeds a threshold or narrows a gap. And whether the message that
-    /// came has one of the terms.
-    fn touch(&self, moved: &Moved) -> (bool, bool) {
-        let (mut over, mut shares) = (false, false);
-        for (&t, &low) in self.query.terms().iter().zip(&self.gaps.low) {
-            let m = moved.of(t);
-            over |= low < m.came.max(m.went) as u32;
-            shares |= m.came != 0;
-        }
-        (over, shares)
-    }
-
-    /// The gaps without the impacts that came.
+    /// Narrows the gaps, so that no impact that came lies inside one.
     fn narrow(&mut self, moved: &Moved) {
         for (i, &t) in self.query.terms().iter().enumerate() {
             let came = moved.of(t).came as u32;
-            let end = if self.thresholds[i] < came { &mut self.gaps.high[i] } else { &mut self.gaps.low[i] };
-            *end = if self.thresholds[i] < came { came.min(*end) } else { came.max(*end) };
+            let above = self.thresholds[i] < came;
+            self.gaps.low[i] = self.gaps.low[i].max(if above { 0 } else { came });
+            self.gaps.high[i] = self.gaps.high[i].min(if above { came } else { TOP + 1 });
         }
     }
 
@@ -81,11 +70,11 @@ impl Kept {
         (0..self.query.n).all(tight).then_some(thresholds)
     }
 
-    /// With these thresholds, from messages looked up, which are all that exceed one, and ranked.
+    /// Takes these thresholds, with what follows from the messages looked up and ranked, among which are all that exceed one.
     fn conclude(&mut self, thresholds: [u32; 8], v: &mut View) {
         self.thresholds = thresholds;
         self.gaps = v.looked.sift(self.query.n, &thresholds, &mut self.candidates, v.window);
-        // those of the list score more than the thresholds do, so they are candidates
+        // no entry but a candidate may stay; those of the list score more than the thresholds do, so they are candidates
         for i in (self.query.k..self.entries.len()).rev() {
             if self.candidates.binary_search(&self.entries[i].place).is_err() {
                 self.entries.remove(i);
@@ -106,7 +95,7 @@ impl Kept {
     /// From the messages of the window that have one of the terms.
     fn refill(&mut self, v: &mut View) {
         let first = v.window.first() as usize;
-        let having = (0..v.window.messages.len()).filter(|at| v.sharing[first.wrapping_add(*at) % 256] >> self.number & 1 == 1);
+        let having = (0..v.window.messages.len()).filter(|at| v.sharing[(first + at) % 256] >> self.number & 1 == 1);
         v.looked.look(&self.query, v.window, having);
         v.looked.rank(&mut self.entries, self.query.k + MORE, v.window);
         let mut thresholds = [0; 8];
@@ -148,10 +137,10 @@ impl Kept {
             let first = v.window.first();
             self.entries.retain(|e| first <= e.place);
         }
-        // the entries of a short list are all candidates, those of a full one the best: what is behind them all may be behind others too
+        // a full list's entries needn't be all its candidates, so what comes behind the last entry may come behind others too
         let fits = last.is_none() || self.entries.last().is_some_and(|e| e.score <= m.came);
         if let Some(newest) = v.window.newest().filter(|_| m.above && fits) {
-            keep(&mut self.entries, self.query.k + MORE, Entry { score: m.came, place: newest.place, serial: newest.serial });
+            keep(&mut self.entries, self.query.k + MORE, newest.entry(m.came));
         }
         match self.last() {
             Some(now) if last != Some(now) => self.retune(now, v),
@@ -197,13 +186,11 @@ impl Upkeep for StoredGaps {
         newest.iter().for_each(|&p| self.sharing[p as usize % 256] = u32::MAX);
         let (mut reached, mut sharing) = (0, 0);
         for kept in queries.iter_mut().flatten() {
-            let (over, shares) = kept.touch(&self.moved);
-            sharing |= (shares as u32) << kept.number;
-            if !over {
-                continue;
-            }
-            kept.narrow(&self.moved);
             let m = self.moved.meet(&kept.query, &kept.thresholds);
+            if m.came != 0 {
+                sharing |= 1 << kept.number;
+                kept.narrow(&self.moved);
+            }
             if m.above || m.left {
                 reached += 1;
                 pass(&mut kept.candidates, w, newest.filter(|_| m.above));

@@ -53,7 +53,7 @@ impl<L: Look, T: Tally> Upkeep for Naive<L, T> {
         let mut reached = 0;
         for kept in queries.iter_mut().flatten() {
             if let Some(m) = w.newest() {
-                kept.arrived(m.entry::<L>(&kept.query));
+                kept.arrived(m.scored::<L>(&kept.query));
             }
             w.departed.iter().for_each(|m| kept.departed(m));
             if !kept.whole && kept.list.len() < kept.query.k {

@@ -24,7 +24,8 @@ fn pairs(n: u32) -> Vec<(u32, u32)> {
 pub fn print() {
     let mut engine = Proved::start(256, 65535);
     engine.frame(&Frame::Tick { time: u32::MAX }.bytes()).expect("an accepted tick");
-    println!("| frame | proved, nanoseconds | plain, nanoseconds | ratio |\n|---|---|---|---|");
+    println!("| frame | ratio |\n|---|---|");
+    let mut times = String::from("In nanoseconds, proved and plain:");
     for (name, frame) in [
         ("message of 16 pairs", Frame::Message { time: 123_456, serial: 98_765, pairs: pairs(16) }),
         ("message of 8 pairs", Frame::Message { time: 123_456, serial: 98_765, pairs: pairs(8) }),
@@ -37,6 +38,8 @@ pub fn print() {
             proved = proved.min(nanoseconds(|| assert_eq!(engine.frame(black_box(&bytes)), Err(7))));
             plain = plain.min(nanoseconds(|| assert!(black_box(&read(black_box(&bytes))).is_ok())));
         }
-        println!("| {name} | {proved:.1} | {plain:.1} | {:.2} |", plain / proved);
+        println!("| {name} | {:.2} |", plain / proved);
+        times += &format!(" {name} {proved:.1} and {plain:.1};");
     }
+    println!("\n{}", times.trim_end_matches(';'));
 }

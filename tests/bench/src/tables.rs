@@ -1,17 +1,14 @@
-//! The eager method with the same state, by tables: the moved impacts stand by term, so a query that isn't reached costs a step for each of its terms;
-//! a list changes in place; candidates are looked up in rows.
+//! The eager method with the same state, by tables: the moved impacts stand by term, so that a query which isn't reached costs a step for each of its
+//! terms; a list changes in place; messages are looked up in rows.
 
 use crate::eager::Kept;
 use crate::plain::{keep, pass, Entry, Queries, Query, Upkeep, Window};
 use crate::rows::{Looked, Meeting, Moved};
 
 impl Kept {
-    /// From messages looked up, which are all that can be candidates: the thresholds for the list as it is, and the candidates.
+    /// Thresholds and candidates for the list as it is, from the messages looked up, among which are all that can be candidates.
     fn conclude(&mut self, w: &Window, looked: &mut Looked) {
-        match self.last() {
-            Some(last) => self.raise(last),
-            None => self.thresholds = [0; 8],
-        }
+        self.raise();
         looked.sift(self.query.n, &self.thresholds, &mut self.candidates, w);
     }
 
@@ -31,7 +28,7 @@ impl Kept {
     fn replace(&mut self, w: &Window, looked: &mut Looked) {
         self.look(w, looked);
         looked.rank(&mut self.list, self.query.k, w);
-        if self.last().is_some_and(|last| self.query.weigh(&self.thresholds) < last) {
+        if self.is_safe() {
             self.conclude(w, looked);
         } else {
             self.rank_all(w, looked);
@@ -47,7 +44,7 @@ impl Kept {
             self.list.retain(|e| first <= e.place);
         }
         if let Some(newest) = w.newest().filter(|_| least <= m.came) {
-            keep(&mut self.list, self.query.k, Entry { score: m.came, place: newest.place, serial: newest.serial });
+            keep(&mut self.list, self.query.k, newest.entry(m.came));
         }
         let now = self.last();
         if last.is_some() && now.is_none() {
