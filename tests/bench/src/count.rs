@@ -3,7 +3,7 @@
 use crate::eager::Eager;
 use crate::naive::Naive;
 use crate::plain::{Method, Plain, Upkeep, Walk};
-use crate::workload::{Passage, Setting, MESSAGES, SHARED};
+use crate::workload::{Passage, Setting, MESSAGES, SEED, SHARED};
 
 /// Told what a method does. One that is timed has the tally (), which costs nothing.
 pub trait Tally: Default {
@@ -45,7 +45,7 @@ fn counted<U: Upkeep>(p: &Passage, tally: fn(&mut U) -> &mut Counts) -> (usize, 
 
 /// The rows of one column.
 fn column(terms: u64) -> [f64; 5] {
-    let p = Passage::new(Setting { capacity: 256, queries: 32, terms }, MESSAGES);
+    let p = Passage::new(Setting { capacity: 256, queries: 32, terms }, MESSAGES, SEED);
     let (reached, eager) = counted::<Eager<Walk, Counts>>(&p, |e| &mut e.tally);
     let (_, naive) = counted::<Naive<Walk, Counts>>(&p, |n| &mut n.tally);
     let frame = |number: usize| number as f64 / MESSAGES as f64;

@@ -10,7 +10,7 @@ use crate::tables::Tables;
 use crate::workload::{Passage, Setting};
 use std::time::Instant;
 
-/// How many messages make a part: of each part the best round counts, as others may use the machine.
+/// How many messages make a part, which divides all that are measured: of each part the best round counts, as others may use the machine.
 const PART: usize = 10;
 
 /// A round runs every method once; the slow ones are left out of the later rounds.
@@ -26,26 +26,29 @@ pub struct Run {
     lists: Vec<Vec<(u32, u32)>>,
 }
 
-/// The passage taken in by so many engines, each frame by one after the other.
-fn run<M: Method>(p: &Passage, boards: usize) -> Run {
-    let mut boards: Vec<M> = (0..boards).map(|_| M::start(p.setting.capacity, p.life)).collect();
-    let (before, measured) = p.split();
-    for f in before {
-        boards.iter_mut().for_each(|m| assert!(m.frame(f).is_ok()));
-    }
+/// An engine for each passage; they take in a message each, in turn.
+fn run<M: Method>(passages: &[&Passage]) -> Run {
+    let started = |p: &&Passage| {
+        let mut m = M::start(p.setting.capacity, p.life);
+        p.split().0.iter().for_each(|f| assert!(m.frame(f).is_ok()));
+        m
+    };
+    let mut engines: Vec<M> = passages.iter().map(started).collect();
+    let measured: Vec<&[Vec<u8>]> = passages.iter().map(|p| p.split().1).collect();
     let (mut seconds, mut reached, mut idle) = (Vec::new(), 0, 0);
-    for frames in measured.chunks(PART) {
+    for part in (0..measured[0].len()).step_by(PART) {
         let t = Instant::now();
-        for f in frames {
-            for m in &mut boards {
-                let queries = m.frame(f).expect("an accepted frame");
+        for turn in part..part + PART {
+            for (m, frames) in engines.iter_mut().zip(&measured) {
+                let queries = m.frame(&frames[turn]).expect("an accepted frame");
                 reached += queries;
                 idle += (queries == 0) as usize;
             }
         }
         seconds.push(t.elapsed().as_secs_f64());
     }
-    Run { seconds, reached, idle, lists: boards.iter().flat_map(|m| (0..p.setting.queries).map(|q| m.list(q))).collect() }
+    let queries = passages[0].setting.queries;
+    Run { seconds, reached, idle, lists: engines.iter().flat_map(|m| (0..queries).map(|q| m.list(q))).collect() }
 }
 
 /// The best rounds of a method, part by part.
@@ -65,7 +68,7 @@ impl Best {
 
 pub struct Rival {
     pub name: &'static str,
-    run: fn(&Passage, usize) -> Run,
+    run: fn(&[&Passage]) -> Run,
     slow: bool,
     /// Whether its thresholds are chosen as the proved engine's are: then it reaches as many queries.
     same: bool,
@@ -94,30 +97,29 @@ pub struct Row {
     pub idle: f64,
 }
 
-/// So many messages taken in by so many engines of each method.
-pub fn measured(setting: Setting, messages: usize, boards: usize, rivals: &[Rival]) -> Row {
-    let p = Passage::new(setting, messages);
+/// Passages of one setting, for as many engines of each method.
+pub fn measured(passages: &[&Passage], rivals: &[Rival]) -> Row {
     let mut best = Best::default();
     let mut bests = vec![Best::default(); rivals.len()];
     let mut idle = 0;
     for round in 0..ROUNDS {
-        let proved = run::<Proved>(&p, boards);
+        let proved = run::<Proved>(passages);
         best.of(&proved);
         idle = proved.idle;
         for (rival, best) in rivals.iter().zip(&mut bests) {
             if round < SLOW_ROUNDS || !rival.slow {
-                let r = (rival.run)(&p, boards);
+                let r = (rival.run)(passages);
                 assert!(r.lists == proved.lists, "{}: the lists differ", rival.name);
                 assert!(!rival.same || r.reached == proved.reached, "{}: another method, as other queries are reached", rival.name);
                 best.of(&r);
             }
         }
     }
-    let seconds = best.seconds();
+    let (seconds, messages) = (best.seconds(), passages[0].split().1.len());
     Row {
-        setting,
+        setting: passages[0].setting,
         messages_per_second: messages as f64 / seconds,
         ratios: bests.iter().map(|b| b.seconds() / seconds).collect(),
-        idle: idle as f64 / (messages * boards) as f64,
+        idle: idle as f64 / (messages * passages.len()) as f64,
     }
 }

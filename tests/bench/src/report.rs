@@ -1,11 +1,11 @@
 //! The tables of a run, and the plot.
 
 use crate::measure::{measured, Row, RIVALS};
-use crate::workload::{Setting, MESSAGES, SHARED};
+use crate::workload::{Passage, Setting, MESSAGES, SEED, SHARED};
 use crate::{plot, reading};
 
 /// The classroom: so many engines on one machine, each taking in so many messages.
-const BOARDS: usize = 40;
+const BOARDS: u64 = 40;
 const BOARD_MESSAGES: usize = 400;
 
 /// The rivals of the first table end here, and those of the others, without the full re-rank, start here.
@@ -34,7 +34,7 @@ fn all_settings() -> Vec<Row> {
     for (terms, shared) in SHARED {
         for capacity in [16, 64, 256] {
             for queries in [1, 8, 32] {
-                let row = measured(Setting { capacity, queries, terms }, MESSAGES, 1, &RIVALS);
+                let row = measured(&[&Passage::new(Setting { capacity, queries, terms }, MESSAGES, SEED)], &RIVALS);
                 let known = vec![shared.into(), capacity.to_string(), queries.to_string()];
                 line(&[known, two_digits(&row.ratios[..FIRST]), vec![format!("{:.1} %", 100.0 * row.idle)]].concat());
                 rows.push(row);
@@ -44,30 +44,39 @@ fn all_settings() -> Vec<Row> {
     rows
 }
 
-fn quick_head(speed: &str) {
-    head(&["shared terms", "queries", speed], QUICK..RIVALS.len(), &[]);
+/// A row with the proved engine's speed and the ratios of the last rivals, those from QUICK on.
+fn quick_line(known: &str, row: &Row) {
+    let known = vec![known.into(), row.setting.queries.to_string(), format!("{:.0}", row.messages_per_second)];
+    line(&[known, two_digits(&row.ratios[row.ratios.len() + QUICK - RIVALS.len()..])].concat());
 }
 
-/// A row with the proved engine's speed and the ratios of the last rivals, those from QUICK on.
-fn quick_line(row: &Row) {
-    let shared = SHARED.iter().find(|(terms, _)| *terms == row.setting.terms).map_or("", |(_, shared)| shared);
-    let known = vec![shared.into(), row.setting.queries.to_string(), format!("{:.0}", row.messages_per_second)];
-    line(&[known, two_digits(&row.ratios[row.ratios.len() + QUICK - RIVALS.len()..])].concat());
+fn largest(rows: &[Row]) {
+    head(&["shared terms", "queries", "messages per second"], QUICK..RIVALS.len(), &[]);
+    for (terms, shared) in SHARED {
+        let of_these = |r: &&Row| r.setting.capacity == 256 && r.setting.terms == terms;
+        rows.iter().filter(of_these).for_each(|row| quick_line(shared, row));
+    }
+}
+
+fn classroom() {
+    head(&["messages", "queries", "messages per second for each"], QUICK..RIVALS.len(), &[]);
+    for queries in [1, 32] {
+        let setting = Setting { capacity: 256, queries, terms: SHARED[0].0 };
+        let own: Vec<_> = (0..BOARDS).map(|board| Passage::new(setting, BOARD_MESSAGES, SEED + board)).collect();
+        let own: Vec<_> = own.iter().collect();
+        quick_line("the same", &measured(&vec![own[0]; own.len()], &RIVALS[QUICK..]));
+        quick_line("each its own", &measured(&own, &RIVALS[QUICK..]));
+    }
 }
 
 /// Prints all tables, and writes the plot to the path.
 pub fn print(path: &str) {
     println!("Ratios: the rival's time over the proved engine's for the same frames, so ABOVE 1 THE PROVED ENGINE IS FASTER.\n");
     let rows = all_settings();
-    println!("\nN 256, with the strongest unverified forms:\n");
-    quick_head("messages per second");
-    rows.iter().filter(|r| r.setting.capacity == 256).for_each(quick_line);
-    println!("\nThe classroom: {BOARDS} engines, N 256, each frame taken in by one after the other:\n");
-    quick_head("messages per second for each");
-    for queries in [1, 32] {
-        let setting = Setting { capacity: 256, queries, terms: SHARED[0].0 };
-        quick_line(&measured(setting, BOARD_MESSAGES, BOARDS, &RIVALS[QUICK..]));
-    }
+    println!("\nN 256, with the methods by tables:\n");
+    largest(&rows);
+    println!("\nThe classroom: {BOARDS} engines, few shared terms, N 256, a message to each in turn:\n");
+    classroom();
     println!("\nReading a frame alone; the ratio is the plain reader's time over the proved one's:\n");
     reading::print();
     std::fs::write(path, plot::svg(&rows)).unwrap_or_else(|e| panic!("{path}: {e}"));

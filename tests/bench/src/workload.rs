@@ -9,7 +9,7 @@ pub const SHARED: [(u64, &str); 3] = [(1024, "few"), (400, "some"), (40, "many")
 /// How many messages are measured, once the window is full.
 pub const MESSAGES: usize = 4000;
 
-const SEED: u64 = 7;
+pub const SEED: u64 = 7;
 
 #[derive(Clone, Copy)]
 pub struct Setting {
@@ -34,8 +34,8 @@ fn rising(r: &mut Random, n: u64, terms: u64, most: u64) -> Vec<(u32, u32)> {
 
 impl Passage {
     /// With so many messages after those that fill the window.
-    pub fn new(setting: Setting, messages: usize) -> Self {
-        let mut r = Random::new(SEED);
+    pub fn new(setting: Setting, messages: usize, seed: u64) -> Self {
+        let mut r = Random::new(seed);
         let mut frames = Vec::new();
         for number in 0..setting.queries {
             let (k, n) = (1 + r.below(8) as usize, 1 + r.below(5));
