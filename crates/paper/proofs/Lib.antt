@@ -6,6 +6,7 @@ pub mod LogLaws
 pub mod SortLaws
 pub mod RankLaws
 pub mod ThresholdLaws
+pub mod LeadLaws
 pub mod MarkLaws
 pub mod FrameLaws
 pub mod WriteLaws
