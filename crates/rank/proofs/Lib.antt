@@ -1,6 +1,7 @@
 pub mod OpenLaws
 pub mod LineLaws
 pub mod KeptLaws
+pub mod RemovedLaws
 pub mod SumLaws
 pub mod SpreadLaws
 pub mod PaperLaws

@@ -1,0 +1,130 @@
+-- `removed`, on plain values: where its loop starts, and a turn of it; serials taken out one after the other. Assumes nothing.
+use Prim.Native.Nat.{ℕ, zero, suc, _+_, _≤_, _<_}
+use native.Mathlib.Nat.{le-of-suc-le-suc, not-suc-le-zero}
+use native.Mathlib.Numerals.{add-one}
+use native.Mathlib.Omega.{arith}
+use mathlib.Core.Path.{_≡_, refl, sym, ap, _∙_}
+use mathlib.Core.Bool.{Bool, not, _&&_}
+use mathlib.Core.List.{List, [], _∷_, _++_, append-nil}
+use lib.ListN.{length, getD, set, replicate, length-set}
+use lib.Seq.{getD-set-other}
+use lib.Dec.{eqb}
+use borrow.Author.Tests.{eqb-true, eqb-false, eq-eqb, ne-eqb}
+use Rattle.paper.specs.Frame.{mostListed}
+use Rattle.paper.specs.Window.{Message}
+use Rattle.paper.specs.Rank.{Line, Entry, lines, serials}
+use Rattle.paper.specs.Log.{hasSerial}
+use Rattle.paper.specs.Sort.{select}
+use Rattle.paper.proofs.Tests.{by-bool}
+use Rattle.paper.proofs.SortLaws.{select-append, select-all}
+use Rattle.paper.proofs.LeadLaws.{entryStays, lineStays, lines-gone}
+use Rattle.rank.specs.Listing.{listed, ZeroFrom, without, withouts}
+use Rattle.rank.proofs.LineLaws.{new}
+
+-- ---- one place more
+
+listed-suc : (i : ℕ) (a b : List ℕ) → i < length a → i < length b
+    → listed (suc i) a b ≡ listed i a b ++ (new (getD a i 0) (getD b i 0) ∷ [])
+unfolding listed
+listed-suc i [] b ha hb = absurd (not-suc-le-zero ha)
+listed-suc i (x ∷ xs) [] ha hb = absurd (not-suc-le-zero hb)
+listed-suc zero (x ∷ xs) (y ∷ ys) ha hb = refl
+listed-suc (suc i) (x ∷ xs) (y ∷ ys) ha hb =
+    ap (λ (r : List Line). record { serial = x; score = y } ∷ r) (listed-suc i xs ys (le-of-suc-le-suc ha) (le-of-suc-le-suc hb))
+
+-- a line written at the next place
+listed-set : (s c n : ℕ) (a b : List ℕ) → n < length a → n < length b → listed (suc n) (set a n s) (set b n c) ≡ listed n a b ++ (new s c ∷ [])
+unfolding listed
+listed-set s c n [] b ha hb = absurd (not-suc-le-zero ha)
+listed-set s c n (x ∷ xs) [] ha hb = absurd (not-suc-le-zero hb)
+listed-set s c zero (x ∷ xs) (y ∷ ys) ha hb = refl
+listed-set s c (suc n) (x ∷ xs) (y ∷ ys) ha hb =
+    ap (λ (r : List Line). record { serial = x; score = y } ∷ r) (listed-set s c n xs ys (le-of-suc-le-suc ha) (le-of-suc-le-suc hb))
+
+zero-set : (n v : ℕ) (a : List ℕ) → ZeroFrom n a → ZeroFrom (n + 1) (set a n v)
+zero-set n v a z i h = getD-set-other a n i v 0 (λ e. omega arith) ∙ z i (omega arith)
+
+zero-none : (n : ℕ) → ZeroFrom 0 (replicate n 0)
+zero-none zero i h = refl
+zero-none (suc n) zero h = refl
+zero-none (suc n) (suc i) h = zero-none n i (omega arith)
+
+-- ---- the loop
+
+-- i places of the arrays a and b are passed, and n of them stay: they are the first of the arrays s and c, and all else there is 0
+pub record Passed (serial : ℕ) (a b : List ℕ) (i n : ℕ) (s c : List ℕ) : Type 0 where
+  pub list : listed n s c ≡ without serial (listed i a b)
+  pub no-more : n ≤ i
+  pub serials-long : length s ≡ mostListed
+  pub scores-long : length c ≡ mostListed
+  pub serials-zero : ZeroFrom n s
+  pub scores-zero : ZeroFrom n c
+
+pub passed-start : (serial : ℕ) (a b : List ℕ) → Passed serial a b 0 0 (replicate mostListed 0) (replicate mostListed 0)
+unfolding listed select
+passed-start serial a b = record {
+  list = refl;
+  no-more = omega arith;
+  serials-long = refl;
+  scores-long = refl;
+  serials-zero = zero-none mostListed;
+  scores-zero = zero-none mostListed;
+}
+
+module _ {serial : ℕ} {a b : List ℕ} {i n : ℕ} {s c : List ℕ} (p : Passed serial a b i n s c) (ha : i < length a) (hb : i < length b) where
+  -- the list with one place more passed
+  further : without serial (listed (i + 1) a b) ≡ without serial (listed i a b) ++ without serial (new (getD a i 0) (getD b i 0) ∷ [])
+  further =
+      rw (add-one, listed-suc i a b ha hb)
+      (select-append (λ (x : Line). not (eqb (x .serial) serial)) (listed i a b) (new (getD a i 0) (getD b i 0) ∷ []))
+
+  -- the line here stays ..
+  pub passed-stays : n < mostListed → (getD a i 0 ≡ serial → ⊥) → Passed serial a b (i + 1) (n + 1) (set s n (getD a i 0)) (set c n (getD b i 0))
+  unfolding select
+  passed-stays h ne = record {
+    list = rw (add-one n, listed-set (getD a i 0) (getD b i 0) n s c (omega arith) (omega arith), further, ne-eqb (getD a i 0) serial ne, p .list);
+    no-more = omega arith;
+    serials-long = simp length-set (omega arith);
+    scores-long = simp length-set (omega arith);
+    serials-zero = zero-set n (getD a i 0) s (p .serials-zero);
+    scores-zero = zero-set n (getD b i 0) c (p .scores-zero);
+  }
+
+  -- .. or goes
+  pub passed-leaves : getD a i 0 ≡ serial → Passed serial a b (i + 1) n s c
+  unfolding select
+  passed-leaves e = record {
+    list = rw (further, eq-eqb (getD a i 0) serial e) (p .list ∙ sym (append-nil (without serial (listed i a b))));
+    no-more = omega arith;
+    serials-long = p .serials-long;
+    scores-long = p .scores-long;
+    serials-zero = p .serials-zero;
+    scores-zero = p .scores-zero;
+  }
+
+-- ---- one serial after the other
+
+-- a test made after another is both at once
+select-both : {A : Type 0} (f g both : A → Bool) → ((x : A) → both x ≡ (f x && g x)) → (l : List A) → select g (select f l) ≡ select both l
+unfolding select
+select-both f g both h [] = refl
+select-both f g both h (x ∷ xs) =
+    let ih = select-both f g both h xs in
+    let e = h x in
+    by-bool (f x) (λ p. by-bool (g x) (λ u. rw (p, u, e, p, u, ih)) (λ u. rw (p, u, e, p, u, ih))) (λ p. rw (p, e, p) ih)
+
+stays-both : (m : Message) (gone : List Message) (x : Line) → lineStays (m ∷ gone) x ≡ (not (eqb (x .serial) (m .serial)) && lineStays gone x)
+unfolding hasSerial
+stays-both m gone x =
+    by-bool (eqb (x .serial) (m .serial))
+    (λ p. rw (p, eq-eqb (m .serial) (x .serial) (sym (eqb-true (x .serial) (m .serial) p))))
+    (λ p. rw (p, ne-eqb (m .serial) (x .serial) (λ e. eqb-false (x .serial) (m .serial) p (sym e))))
+
+-- the serials of messages taken out of lines
+pub without-all : (gone : List Message) (l : List Line) → withouts (serials gone) l ≡ select (lineStays gone) l
+unfolding withouts hasSerial
+without-all [] l = sym (select-all (lineStays []) l (λ x m. refl))
+without-all (m ∷ gone) l = without-all gone (without (m .serial) l) ∙ select-both _ _ (lineStays (m ∷ gone)) (stays-both m gone) l
+
+pub without-lines : (gone : List Message) (es : List Entry) → withouts (serials gone) (lines es) ≡ lines (select (entryStays gone) es)
+without-lines gone es = without-all gone (lines es) ∙ sym (lines-gone gone es)
