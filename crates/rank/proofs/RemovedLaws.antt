@@ -79,15 +79,16 @@ module _ {serial : ℕ} {a b : List ℕ} {i n : ℕ} {s c : List ℕ} (p : Passe
       (select-append (λ (x : Line). not (eqb (x .serial) serial)) (listed i a b) (new (getD a i 0) (getD b i 0) ∷ []))
 
   -- the line here stays ..
-  pub passed-stays : n < mostListed → (getD a i 0 ≡ serial → ⊥) → Passed serial a b (i + 1) (n + 1) (set s n (getD a i 0)) (set c n (getD b i 0))
+  pub passed-stays : (x y : ℕ) → x ≡ getD a i 0 → y ≡ getD b i 0 → n < mostListed → (getD a i 0 ≡ serial → ⊥)
+      → Passed serial a b (i + 1) (n + 1) (set s n x) (set c n y)
   unfolding select
-  passed-stays h ne = record {
-    list = rw (add-one n, listed-set (getD a i 0) (getD b i 0) n s c (omega arith) (omega arith), further, ne-eqb (getD a i 0) serial ne, p .list);
+  passed-stays x y ex ey h ne = record {
+    list = rw (add-one n, listed-set x y n s c (omega arith) (omega arith), further, ne-eqb (getD a i 0) serial ne, p .list, ex, ey);
     no-more = omega arith;
     serials-long = simp length-set (omega arith);
     scores-long = simp length-set (omega arith);
-    serials-zero = zero-set n (getD a i 0) s (p .serials-zero);
-    scores-zero = zero-set n (getD b i 0) c (p .scores-zero);
+    serials-zero = zero-set n x s (p .serials-zero);
+    scores-zero = zero-set n y c (p .scores-zero);
   }
 
   -- .. or goes
