@@ -21,6 +21,7 @@ use Rattle.paper.specs.Layout.{slots}
 use Rattle.paper.proofs.RankLaws.{ranking-more}
 use Rattle.paper.proofs.SortLaws.{select-map}
 use Rattle.paper.proofs.Tests.{and-true}
+use Rattle.paper.proofs.ThresholdLaws.{score-agree, exceeds-agree}
 use Rattle.impact.specs.Cell.{RisingCells}
 use Rattle.impact.proofs.CellLaws.{lookup-cells, rising-cells}
 use Rattle.rank.specs.Listing.{grown}
@@ -33,16 +34,13 @@ use Rattle.candidates.specs.Post.{grows, RisingRing}
 -- ---- a stored message
 
 pub score-stored : (qs : List Pair) (m : Message) → Pairs countWidth mostPairs (m .pairs) → scoreCells qs (stored m .cells) ≡ score qs (m .pairs)
-unfolding scoreCells score stored
-score-stored [] m v = refl
-score-stored (q ∷ qs) m v = ap₂ (λ (x y : ℕ). q .amount * x + y) (lookup-cells (m .pairs) v (q .term)) (score-stored qs m v)
+unfolding stored
+score-stored qs m v = score-agree qs (lookup-cells (m .pairs) v)
 
 pub exceeds-stored : (qs : List Pair) (hs : List ℕ) (m : Message) → Pairs countWidth mostPairs (m .pairs)
     → exceedsCells qs hs (stored m .cells) ≡ exceeds qs hs (m .pairs)
-unfolding exceedsCells exceeds stored
-exceeds-stored [] hs m v = refl
-exceeds-stored (q ∷ qs) [] m v = refl
-exceeds-stored (q ∷ qs) (h ∷ hs) m v = ap₂ (λ (x : ℕ) (b : Bool). ltb h x || b) (lookup-cells (m .pairs) v (q .term)) (exceeds-stored qs hs m v)
+unfolding stored
+exceeds-stored qs hs m v = exceeds-agree qs hs (lookup-cells (m .pairs) v)
 
 -- ---- a window of stored messages
 

@@ -9,7 +9,7 @@ use lib.ListN.{length, getD, take, length-map, length-take, List·getD-map}
 use lib.Seq.{getD-take}
 use borrow.Author.Tests.{le-ltb, ne-eqb}
 use Rattle.paper.specs.Frame.{Pair}
-use Rattle.paper.specs.Threshold.{termAt, weightAt}
+use Rattle.paper.specs.Threshold.{exceedsBy, termAt, weightAt}
 use Rattle.paper.specs.Write.{side-by-side}
 use Rattle.impact.specs.Cell.{cellTerm, lookup}
 use Rattle.window.specs.Terms.{termLimit, termOf, anyIn, cellTerms}
@@ -25,7 +25,7 @@ lookup-missing t (c ∷ cs) h = rw (ne-eqb (cellTerm c) t (h 0 (omega arith))) (
 
 pub exceeds-missing : (qs : List Pair) (hs cs : List ℕ) → ((i : ℕ) → i < length qs → (k : ℕ) → k < length cs → termOf cs k ≡ termAt qs i → ⊥)
     → exceedsCells qs hs cs ≡ false
-unfolding exceedsCells termAt
+unfolding exceedsBy termAt
 exceeds-missing [] hs cs f = refl
 exceeds-missing (q ∷ qs) [] cs f = refl
 exceeds-missing (q ∷ qs) (h ∷ hs) cs f =

@@ -4,18 +4,17 @@ use mathlib.Core.Bool.{Bool, true, false, _||_, _&&_}
 use mathlib.Core.List.{List, [], _∷_}
 use lib.Dec.{ltb}
 use Rattle.paper.specs.Frame.{Pair}
+use Rattle.paper.specs.Impact.{scoreBy}
 use Rattle.paper.specs.Rank.{Line}
+use Rattle.paper.specs.Threshold.{exceedsBy}
 use Rattle.impact.specs.Cell.{lookup, RisingCells}
 use Rattle.window.specs.Slot.{Slot}
 
-unfoldable pub scoreCells : List Pair → List ℕ → ℕ
-scoreCells [] cs = 0
-scoreCells (q ∷ qs) cs = q .amount * lookup (q .term) cs + scoreCells qs cs
+abbrev pub scoreCells : List Pair → List ℕ → ℕ
+scoreCells qs cs = scoreBy (λ t. lookup t cs) qs
 
-unfoldable pub exceedsCells : List Pair → List ℕ → List ℕ → Bool
-exceedsCells [] hs cs = false
-exceedsCells (q ∷ qs) [] cs = false
-exceedsCells (q ∷ qs) (h ∷ hs) cs = ltb h (lookup (q .term) cs) || exceedsCells qs hs cs
+abbrev pub exceedsCells : List Pair → List ℕ → List ℕ → Bool
+exceedsCells qs hs cs = exceedsBy (λ t. lookup t cs) qs hs
 
 -- whether one of the slots exceeds a threshold
 unfoldable pub reachedSlots : List Pair → List ℕ → List Slot → Bool

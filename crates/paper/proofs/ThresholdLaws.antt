@@ -1,11 +1,11 @@
 -- Why thresholds are enough: candidates give the whole ranking, and a query that a change of the window doesn't reach stays settled.
 -- Assumes nothing.
-use Prim.Native.Nat.{ℕ, zero, suc, _*_, _-_, _≤_, _<_}
+use Prim.Native.Nat.{ℕ, zero, suc, _+_, _*_, _-_, _≤_, _<_}
 use native.Mathlib.Nat.{eq-or-lt-of-le, mul-le-mul-left, mul-zero}
 use native.Mathlib.Omega.{arith}
-use mathlib.Core.Path.{_≡_, refl, sym, ap, _∙_, subst}
+use mathlib.Core.Path.{_≡_, refl, sym, ap, ap₂, _∙_, subst}
 use mathlib.Core.Bool as Bools
-use mathlib.Core.Bool.{Bool, true, false, false≢true}
+use mathlib.Core.Bool.{Bool, true, false, _||_, false≢true}
 use mathlib.Core.Logic.{_⊎_, inl, inr, ⊎-elim, _↔_}
 use mathlib.Core.List.{List, [], _∷_, _++_, map}
 use lib.ListN.{length, getD, take}
@@ -13,19 +13,33 @@ use lib.Dec.{ltb}
 use borrow.Author.Tests.{ltb-true, ltb-false, lt-ltb, le-ltb, le-leb, lt-leb}
 use Rattle.paper.specs.Frame.{Pair}
 use Rattle.paper.specs.Window.{Message}
-use Rattle.paper.specs.Impact.{impactIn, score}
+use Rattle.paper.specs.Impact.{impactIn, scoreBy, score}
 use Rattle.paper.specs.Order.{In, Split}
 use Rattle.paper.specs.Sort.{select, sort}
 use Rattle.paper.specs.Rank.{Query, Entry, ahead, entry, scoring, entries, ranking, lines, serials}
-use Rattle.paper.specs.Threshold.{termAt, thresholdSum, Exceeds, exceeds, candidates, reached, lastScore, Tight, Kept, Settled}
+use Rattle.paper.specs.Threshold.{termAt, thresholdSum, Exceeds, exceedsBy, exceeds, candidates, reached, lastScore, Tight, Kept, Settled}
 use Rattle.paper.proofs.Tests.{by-bool, or-false, or-true}
 use Rattle.paper.proofs.SortLaws.{in-left, in-right, select-all, select-in, select-take, select-select, select-change, select-map, count-sort, best}
 use Rattle.paper.proofs.RankLaws.{ranking-length, ranking-last}
 
+-- ---- two ways to give a term's impact that agree
+
+module _ {f g : ℕ → ℕ} where
+  pub score-agree : (qs : List Pair) → ((t : ℕ) → f t ≡ g t) → scoreBy f qs ≡ scoreBy g qs
+  unfolding scoreBy
+  score-agree [] e = refl
+  score-agree (q ∷ qs) e = ap₂ (λ (x y : ℕ). q .amount * x + y) (e (q .term)) (score-agree qs e)
+
+  pub exceeds-agree : (qs : List Pair) (hs : List ℕ) → ((t : ℕ) → f t ≡ g t) → exceedsBy f qs hs ≡ exceedsBy g qs hs
+  unfolding exceedsBy
+  exceeds-agree [] hs e = refl
+  exceeds-agree (q ∷ qs) [] e = refl
+  exceeds-agree (q ∷ qs) (h ∷ hs) e = ap₂ (λ (x : ℕ) (b : Bool). ltb h x || b) (e (q .term)) (exceeds-agree qs hs e)
+
 -- ---- a message that exceeds no threshold
 
 pub score-below : (qs : List Pair) (hs : List ℕ) (ps : List Pair) → exceeds qs hs ps ≡ false → length hs ≡ length qs → score qs ps ≤ thresholdSum qs hs
-unfolding exceeds thresholdSum score
+unfolding exceedsBy thresholdSum scoreBy
 score-below [] hs ps e n = omega arith
 score-below (q ∷ qs) [] ps e n = omega arith
 score-below (q ∷ qs) (h ∷ hs) ps e n =
@@ -38,7 +52,7 @@ above-exceeds qs hs ps n h = by-bool (exceeds qs hs ps) (λ e. e) (λ e. absurd 
 
 -- a message that exceeds one is strictly above it in some term
 pub exceeds-strictly : (qs : List Pair) (hs : List ℕ) (ps : List Pair) → exceeds qs hs ps ≡ true → Exceeds qs hs ps
-unfolding exceeds termAt
+unfolding exceedsBy termAt
 exceeds-strictly [] hs ps e = absurd (false≢true e)
 exceeds-strictly (q ∷ qs) [] ps e = absurd (false≢true e)
 exceeds-strictly (q ∷ qs) (h ∷ hs) ps e =
@@ -49,7 +63,7 @@ exceeds-strictly (q ∷ qs) (h ∷ hs) ps e =
 
 strictly-exceeds : (qs : List Pair) (hs : List ℕ) (ps : List Pair) → length hs ≡ length qs → (i : ℕ) → i < length qs
     → getD hs i 0 < impactIn ps (termAt qs i) → exceeds qs hs ps ≡ true
-unfolding exceeds termAt
+unfolding exceedsBy termAt
 strictly-exceeds [] hs ps n i l h = absurd (omega arith)
 strictly-exceeds (q ∷ qs) [] ps n i l h = absurd (omega arith)
 strictly-exceeds (q ∷ qs) (x ∷ hs) ps n zero l h = rw (lt-ltb x (impactIn ps (q .term)) h)

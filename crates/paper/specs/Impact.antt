@@ -37,7 +37,11 @@ countOf t (p ∷ ps) = cond (eqb (p .term) t) (p .amount) (countOf t ps)
 unfoldable pub impactIn : List Pair → ℕ → ℕ
 impactIn ps t = cond (eqb (countOf t ps) 0) 0 (impact (countOf t ps) (squares ps))
 
--- "A message's score for a query is the sum of weight × impact over the query's terms."
-unfoldable pub score : List Pair → List Pair → ℕ
-score [] ps = 0
-score (q ∷ qs) ps = q .amount * impactIn ps (q .term) + score qs ps
+-- "the sum of weight × impact over the query's terms", whatever gives a term's impact
+unfoldable pub scoreBy : (ℕ → ℕ) → List Pair → ℕ
+scoreBy impacts [] = 0
+scoreBy impacts (q ∷ qs) = q .amount * impacts (q .term) + scoreBy impacts qs
+
+-- "A message's score for a query"
+abbrev pub score : List Pair → List Pair → ℕ
+score qs ps = scoreBy (impactIn ps) qs

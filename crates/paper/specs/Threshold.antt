@@ -18,11 +18,15 @@ thresholdSum [] hs = 0
 thresholdSum (q ∷ qs) [] = 0
 thresholdSum (q ∷ qs) (h ∷ hs) = q .amount * h + thresholdSum qs hs
 
--- whether a message has "an impact strictly above the threshold in some query term"
-unfoldable pub exceeds : List Pair → List ℕ → List Pair → Bool
-exceeds [] hs ps = false
-exceeds (q ∷ qs) [] ps = false
-exceeds (q ∷ qs) (h ∷ hs) ps = ltb h (impactIn ps (q .term)) || exceeds qs hs ps
+-- "an impact strictly above the threshold in some query term", whatever gives a term's impact
+unfoldable pub exceedsBy : (ℕ → ℕ) → List Pair → List ℕ → Bool
+exceedsBy impacts [] hs = false
+exceedsBy impacts (q ∷ qs) [] = false
+exceedsBy impacts (q ∷ qs) (h ∷ hs) = ltb h (impacts (q .term)) || exceedsBy impacts qs hs
+
+-- whether a message has one
+abbrev pub exceeds : List Pair → List ℕ → List Pair → Bool
+exceeds qs hs ps = exceedsBy (impactIn ps) qs hs
 
 -- "Candidates are the messages in force with an impact strictly above the threshold in some query term."
 abbrev pub candidates : List Pair → List ℕ → List Message → List Message

@@ -20,7 +20,7 @@ use Rattle.paper.specs.Sort.{select}
 use Rattle.paper.specs.Window.{Message}
 use Rattle.paper.specs.Write.{side-by-side}
 use Rattle.paper.specs.Sound.{Messages, Terms}
-use Rattle.paper.specs.Threshold.{exceeds, thresholdSum, lastScore, Tight, Settled}
+use Rattle.paper.specs.Threshold.{exceeds, exceedsBy, thresholdSum, lastScore, Tight, Settled}
 use Rattle.paper.specs.Threshold as Threshold
 use Rattle.paper.specs.Layout.{slots}
 use Rattle.paper.proofs.RankLaws.{ranking-right, ranking-length}
@@ -51,7 +51,7 @@ use Rattle.query.proofs.KeptLaws.{over-kept, thresholds-stored, thresho
 -- whoever exceeds one of some thresholds exceeds one of lower ones
 exceeds-lower : (qs : List Pair) (hs hs′ cs : List ℕ) → length hs′ ≤ length hs → ((i : ℕ) → getD hs i 0 ≤ getD hs′ i 0)
     → exceedsCells qs hs′ cs ≡ true → exceedsCells qs hs cs ≡ true
-unfolding exceedsCells
+unfolding exceedsBy
 exceeds-lower [] hs hs′ cs l low e = e
 exceeds-lower (q ∷ qs) hs [] cs l low e = absurd (false≢true e)
 exceeds-lower (q ∷ qs) [] (h′ ∷ hs′) cs l low e = absurd (not-suc-le-zero l)
