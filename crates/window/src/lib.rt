@@ -1,6 +1,6 @@
 // The window: a ring of message slots in the state memory, and the cursor that says which of them are in force.
 ghost use mathlib.Core.Path.{_≡_};
-ghost use Prim.Native.Nat.{ℕ, _+_, _*_, _%_, _^_, _<_, _≤_};
+ghost use Prim.Native.Nat.{ℕ, _+_, _*_, _%_, _^_, _<_, _≤_, max};
 ghost use lib.ListN.{length, getD};
 ghost use Rattle.paper.specs.Frame.{termWidth, countWidth, mostPairs, mostTerms};
 ghost use Rattle.paper.specs.Window.{past};
@@ -11,6 +11,7 @@ ghost use Rattle.memory.specs.Keeps.{Stored};
 ghost use Rattle.impact.specs.Cell.{cellsOf, Looked};
 ghost use Rattle.window.specs.Slot.{slot, sizeAt, window, next, holdsSerial};
 ghost use Rattle.window.specs.Terms.{termLimit, HasAny, Added, cellTerms};
+ghost use Rattle.window.specs.Table.{Raised, RaisedBy};
 ghost use Rattle.window.specs.Cursor.{Loaded, PutCursor, Advanced, Roomy, Written};
 use impact::Impact;
 use paper::MOST_PAIRS;
@@ -105,6 +106,42 @@ pub fn add_terms(state: &[u8], j: usize, set: &mut [bool])
         let term = (memory::get(state, at + i) / impact::TERM_FACTOR) as usize;
         set[term] = true;
         i += 1;
+    }
+}
+
+fn greater(a: u16, b: u16) -> u16
+    ensures { λ r. ⌜ r ≡ max a b ⌝ }
+{
+    if a < b { b } else { a }
+}
+
+// The table's entry of each term of the message in slot j becomes at least the message's impact in it.
+fn raise_impacts(state: &[u8], j: usize, table: &mut [u16])
+    requires { ⌜ (length (now state) ≡ stateLength) × (j < slots) × (length (now table) ≡ termLimit) ⌝ }
+    ensures { λ _. ⌜ (length (now (table .exit)) ≡ termLimit) × Raised (slot (words (now (state .entry))) j .cells) (now (table .entry)) (now (table .exit)) ⌝ }
+{
+    let at = layout::RING + layout::SLOT * j + layout::CELLS;
+    let size = size_in(state, j);
+    let mut i: usize = 0;
+    while i < size {
+        let cell = memory::get(state, at + i);
+        let term = (cell / impact::TERM_FACTOR) as usize;
+        table[term] = greater(table[term], (cell % impact::COUNT_FACTOR) as u16);
+        i += 1;
+    }
+}
+
+// The same for all of the `count` messages from slot `first` on.
+pub fn raise_all(state: &[u8], first: usize, count: usize, table: &mut [u16])
+    requires { ⌜ (length (now state) ≡ stateLength) × (first < slots) × (length (now table) ≡ termLimit) ⌝ }
+    ensures { λ _. ⌜ (length (now (table .exit)) ≡ termLimit) × RaisedBy (window (words (now (state .entry))) first count) (now (table .entry)) (now (table .exit)) ⌝ }
+{
+    let mut j = first;
+    let mut left = count;
+    while 0 < left {
+        raise_impacts(state, j, table);
+        j = following(j);
+        left -= 1;
     }
 }
 
