@@ -1,5 +1,6 @@
 //! Random passages made to suit a log: besides ordinary frames, ones refused under each number from 1 to 10 in turn, frames handed again, serials
-//! used again, twins of messages, and times on which messages leave. What is met so doesn't depend on the seed.
+//! used again, also of a message that leaves by the frame, twins of messages, and times on which messages leave. What is met so doesn't depend on
+//! the seed.
 
 use crate::paper::{Frame, Log};
 use crate::random::Random;
@@ -100,7 +101,8 @@ impl Source {
                     let n = log.messages.len().min(last);
                     (n > 0).then(|| &log.messages[log.messages.len() - 1 - r.below(n as u64) as usize])
                 };
-                let old = if r.one_in(8) { earlier(r, 2 * log.capacity) } else { None };
+                let leaving = log.in_force().into_iter().find(|m| time >= m.time && time - m.time >= s.life).filter(|_| r.one_in(4));
+                let old = if leaving.is_some() || !r.one_in(8) { leaving } else { earlier(r, 2 * log.capacity) };
                 let twin = if r.one_in(6) { earlier(r, 20) } else { None };
                 Frame::Message {
                     time,

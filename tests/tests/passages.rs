@@ -25,9 +25,24 @@ enum Event {
     ListShort,
     /// A message arrives or leaves, shares a term with a query and doesn't reach it.
     Skip,
+    /// Several entries of one list leave by a tick: of a full list, and of a short one.
+    SeveralListedLeavingFull,
+    SeveralListedLeavingShort,
+    /// Nothing of a full list leaves, and the message that arrives scores what its last entry does.
+    ArrivalEqualToLast,
+    /// An entry of a full list leaves with the frame by which a message arrives that scores less than its last entry, and as much or more.
+    LeavingAsALowerArrives,
+    LeavingAsAHigherArrives,
+    /// The arriving message has the serial of an entry that leaves with its frame.
+    SerialOfALeavingEntry,
+    ListFillsUp,
+    ListFallsShort,
+    ListFullAgain,
+    /// Of a query that lists one message: another takes its place.
+    OnlyEntryReplaced,
 }
 
-const EVENTS: [Event; 11] = [
+const EVENTS: [Event; 21] = [
     Event::SerialUsedAgain,
     Event::TwoInOneSecond,
     Event::LeavingAsOneArrives,
@@ -39,6 +54,16 @@ const EVENTS: [Event; 11] = [
     Event::ListFull,
     Event::ListShort,
     Event::Skip,
+    Event::SeveralListedLeavingFull,
+    Event::SeveralListedLeavingShort,
+    Event::ArrivalEqualToLast,
+    Event::LeavingAsALowerArrives,
+    Event::LeavingAsAHigherArrives,
+    Event::SerialOfALeavingEntry,
+    Event::ListFillsUp,
+    Event::ListFallsShort,
+    Event::ListFullAgain,
+    Event::OnlyEntryReplaced,
 ];
 
 #[derive(Default)]
@@ -58,6 +83,8 @@ struct Passage {
     log: Log,
     met: Met,
     dropped: [bool; 32],
+    /// Queries whose list was full and fell short since.
+    fell_short: [bool; 32],
     last: Vec<u8>,
 }
 
@@ -65,7 +92,7 @@ impl Passage {
     fn new(capacity: u32, life: u32) -> Self {
         let mut state = Lent::new(&vec![0x5a; STATE]);
         assert_eq!(engine::start(&mut state, capacity, life), 0);
-        Passage { state, log: Log::new(capacity as usize, life), met: Met::default(), dropped: [false; 32], last: Vec::new() }
+        Passage { state, log: Log::new(capacity as usize, life), met: Met::default(), dropped: [false; 32], fell_short: [false; 32], last: Vec::new() }
     }
 
     /// Hands a frame to both and compares all that is promised of it.
@@ -84,6 +111,7 @@ impl Passage {
             Ok(f) => f,
         };
         assert_eq!(reply.number, 0, "{f:?}");
+        let lists: Vec<Vec<(u32, u32)>> = queries.iter().map(|q| q.as_ref().map_or(Vec::new(), |q| self.log.ranking(q))).collect();
         let (departed, arrived) = self.log.accept(&f);
         assert_eq!(reply.departures as usize, departed.len(), "{f:?}");
         for q in 0..32 {
@@ -91,6 +119,9 @@ impl Passage {
             self.compare_kept(q);
         }
         self.note(&f, &departed, &queries, reply.marks);
+        for q in 0..32 {
+            self.note_list(q, &f, &departed, &lists[q]);
+        }
         reply
     }
 
@@ -114,6 +145,33 @@ impl Passage {
                 self.met.note(Event::Skip, moved.iter().any(|m| m.score(query) > 0));
             }
         }
+    }
+
+    /// What the frame did to the list of a query that was registered before it and is after it.
+    fn note_list(&mut self, q: usize, f: &Frame, departed: &[Message], before: &[(u32, u32)]) {
+        let named = matches!(f, Frame::Register { number, .. } | Frame::Drop { number, .. } if *number == q);
+        let Some(query) = self.log.queries[q].as_ref().filter(|_| !named) else {
+            self.fell_short[q] = false;
+            return;
+        };
+        let (k, after) = (query.k, self.log.ranking(query));
+        let arrived = self.log.messages.last().filter(|_| matches!(f, Frame::Message { .. })).map(|m| (m.serial, m.score(query) as u32));
+        let (full, last) = (before.len() == k, before.last().map_or(0, |e| e.1));
+        let leaving: Vec<u32> = departed.iter().map(|m| m.serial).filter(|s| before.iter().any(|e| e.0 == *s)).collect();
+        let several = leaving.len() > 1 && matches!(f, Frame::Tick { .. });
+        self.met.note(Event::SeveralListedLeavingFull, several && full);
+        self.met.note(Event::SeveralListedLeavingShort, several && !full);
+        if let Some((serial, score)) = arrived {
+            self.met.note(Event::ArrivalEqualToLast, full && leaving.is_empty() && score == last);
+            self.met.note(Event::LeavingAsALowerArrives, full && !leaving.is_empty() && 0 < score && score < last);
+            self.met.note(Event::LeavingAsAHigherArrives, full && !leaving.is_empty() && last <= score);
+            self.met.note(Event::SerialOfALeavingEntry, leaving.contains(&serial));
+        }
+        self.met.note(Event::ListFillsUp, !full && after.len() == k);
+        self.met.note(Event::ListFallsShort, full && after.len() < k);
+        self.met.note(Event::ListFullAgain, self.fell_short[q] && !full && after.len() == k);
+        self.met.note(Event::OnlyEntryReplaced, k == 1 && full && after.len() == k && before != after);
+        self.fell_short[q] |= full && after.len() < k;
     }
 
     fn compare_marks<'a>(&self, q: usize, f: &Frame, before: &Lent, query: Option<&Query>, mut moved: impl Iterator<Item = &'a Message>, marked: bool) {
@@ -207,13 +265,20 @@ fn ordinary() {
 
 #[test]
 fn one_message_in_force() {
-    let ruled_out = [Event::SeveralLeavingByATick, Event::EqualScoresListed, Event::Skip];
+    let ruled_out = [
+        Event::SeveralLeavingByATick,
+        Event::EqualScoresListed,
+        Event::Skip,
+        Event::SeveralListedLeavingFull,
+        Event::SeveralListedLeavingShort,
+        Event::ArrivalEqualToLast,
+    ];
     run(Style { capacity: 1, life: 50, terms: 6, counts: 3, serials: 4, queries: 8, step: 4, jump: 10 }, 1200, 2, &ruled_out);
 }
 
 #[test]
 fn a_full_ring() {
-    run(Style { capacity: 256, life: 65535, terms: 12, counts: 4, serials: 1 << 20, queries: 6, step: 1, jump: 200 }, 1500, 3, &[]);
+    run(Style { capacity: 256, life: 65535, terms: 12, counts: 4, serials: 1 << 20, queries: 6, step: 1, jump: 200 }, 1500, 28, &[]);
 }
 
 #[test]
@@ -228,7 +293,7 @@ fn ties() {
 
 #[test]
 fn extreme_counts() {
-    run(Style { capacity: 100, life: 1000, terms: 1024, counts: 255, serials: 1 << 20, queries: 32, step: 9, jump: 60 }, 1500, 6, &[]);
+    run(Style { capacity: 100, life: 1000, terms: 1024, counts: 255, serials: 1 << 20, queries: 32, step: 9, jump: 60 }, 1500, 51, &[]);
 }
 
 #[test]

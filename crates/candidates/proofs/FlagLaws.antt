@@ -1,22 +1,21 @@
--- Bits of a word: one of them, a word spelled bit by bit, and words in an array. Assumes nothing.
-use Prim.Native.Nat.{ℕ, zero, suc, _+_, _-_, _*_, _/_, _%_, _^_, _≤_, _<_}
-use native.Mathlib.Nat.{mod-lt, le-of-suc-le-suc, not-suc-le-zero, eq-or-lt-of-le, div-one, zero-div, pow-suc, lt-of-lt-of-le}
+-- Bits of a word: one of them read or replaced, and that of a slot among nine words. Assumes nothing.
+use Prim.Native.Nat.{ℕ, zero, suc, _+_, _-_, _*_, _/_, _%_, _^_, _<_}
+use native.Mathlib.Nat.{mod-lt, le-of-suc-le-suc, not-suc-le-zero, div-one, zero-div, pow-suc}
 use native.Mathlib.Numerals.{add-one}
 use native.Mathlib.Omega.{arith}
 use mathlib.Core.Path.{_≡_, refl, sym, ap, ap₂, _∙_, subst}
 use mathlib.Core.Bool.{Bool, true, false, cond}
-use mathlib.Core.Logic.{⊎-elim}
 use mathlib.Core.List.{List, [], _∷_, _++_, append-assoc}
-use lib.ListN.{length, getD, set, replicate, List·getD-append, List·getD-eq-default}
+use lib.ListN.{length, getD, set, replicate}
 use lib.Seq.{getD-at, getD-set-same, getD-set-other}
-use lib.Dec.{eqb, ltb}
-use borrow.Author.Tests.{ltb-true, ltb-false, eqb-true, eqb-false, eq-eqb, ne-eqb}
-use lib.Pow.{pow-mono, pow-pos, pow-add, high, shr-lt}
+use lib.Dec.{eqb}
+use borrow.Author.Tests.{eqb-true, eqb-false, eq-eqb, ne-eqb}
+use lib.Pow.{pow-pos, pow-add, high, shr-lt}
 use lib.Arith.{digits-lt}
 use Rattle.paper.specs.Layout.{slots}
 use Rattle.wire.specs.Bits.{val, odd, bits}
 use Rattle.wire.proofs.BitLaws.{val-lt, odd-val, odd-skip, length-bits, bits-add, bits-skip, bits-mod}
-use Rattle.candidates.specs.Flags.{flagOf, spelled}
+use Rattle.candidates.specs.Flags.{flagOf}
 use Rattle.candidates.specs.Post.{WithBit, WithFlag}
 
 -- bit k of the w lowest bits of v
@@ -43,11 +42,6 @@ pub no-flags : (n j : ℕ) → flagOf (replicate n 0) j ≡ false
 unfolding flagOf
 no-flags n j = rw (zero-at n (j / 32)) (no-bit 32 (j % 32))
 
--- a word of 0 flags none of its slots
-pub none-flagged : (fs : List ℕ) (g i : ℕ) → getD fs g 0 ≡ 0 → i < 32 → flagOf fs (32 * g + i) ≡ false
-unfolding flagOf
-none-flagged fs g i z h = let here : (32 * g + i) / 32 ≡ g = omega arith in rw (here, z) (no-bit 32 ((32 * g + i) % 32))
-
 -- one bit more at the end
 bits-snoc : (n x : ℕ) (b : Bool) → bits (n + 1) (x * 2 + val b) ≡ bits n x ++ (b ∷ [])
 unfolding bits
@@ -57,7 +51,7 @@ bits-snoc n x b =
     rw (bits-add n 1 (x * 2 + val b), e, o)
 
 -- a word of i bits takes one more
-pub word-more : (i word b : ℕ) → word < 2 ^ i → b < 2 → word * 2 + b < 2 ^ (i + 1)
+word-more : (i word b : ℕ) → word < 2 ^ i → b < 2 → word * 2 + b < 2 ^ (i + 1)
 word-more i word b h k = rw (add-one, pow-suc) (digits-lt h k)
 
 -- ---- one bit replaced
@@ -112,63 +106,6 @@ module _ (word k m low : ℕ) (width : k + 1 + m ≡ 32) (value : low ≡ 2 ^ m)
       go : (t : Bool) → eqb i k ≡ t → getD (bits 32 (replaced word (2 ^ m) (val b))) i false ≡ cond t b (getD (bits 32 word) i false)
       go true e = rw (new, eqb-true i k e) (getD-at (bits k h) b (bits m word) false k (length-bits k h))
       go false e = rw (new, old) (others-same (bits k h) (bits m word) b (odd (word / 2 ^ m)) false i (λ z. eqb-false i k e (z ∙ length-bits k h)))
-
-pub word-fits : (i word b : ℕ) → i < 32 → word < 2 ^ i → b < 2 → word * 2 + b < 2 ^ 32
-word-fits i word b l h k = lt-of-lt-of-le (word-more i word b h k) (pow-mono {j = 32} (omega arith))
-
-module _ (test : ℕ → Bool) (a : ℕ) where
-  pub spelled-more : (n b word : ℕ) → word ≡ spelled test a n → b ≡ val (test (a + n)) → word * 2 + b ≡ spelled test a (n + 1)
-  unfolding spelled
-  spelled-more n b word e f = rw (add-one, e, f)
-
-  pub spelled-none : (n : ℕ) → ((i : ℕ) → i < n → test (a + i) ≡ false) → 0 ≡ spelled test a n
-  unfolding spelled
-  spelled-none zero f = refl
-  spelled-none (suc n) f = let ih = spelled-none n (λ i h. f i (omega arith)) in rw (f n (omega arith)) (omega arith)
-
-  pub bit-spelled : (n i : ℕ) → i < n → getD (bits n (spelled test a n)) i false ≡ test (a + i)
-  unfolding spelled
-  bit-spelled zero i h = absurd (not-suc-le-zero h)
-  bit-spelled (suc n) i h =
-      let e : bits (suc n) (spelled test a n * 2 + val (test (a + n))) ≡ bits n (spelled test a n) ++ (test (a + n) ∷ []) =
-      rw (← add-one) (bits-snoc n (spelled test a n) (test (a + n))) in
-      let l = length-bits n (spelled test a n) in
-      rw e
-      (⊎-elim
-      (λ q. rw q (getD-at (bits n (spelled test a n)) (test (a + n)) [] false n l))
-      (λ k. List·getD-append (bits n (spelled test a n)) (test (a + n) ∷ []) false i (omega arith) ∙ bit-spelled n i (omega arith))
-      (eq-or-lt-of-le (le-of-suc-le-suc h)))
-
--- the first g words spell a test of the slots below 32 × g
-abbrev pub Spells : (ℕ → Bool) → List ℕ → ℕ → Type 0
-Spells test fs g = (j : ℕ) → j < 32 * g → flagOf fs j ≡ test j
-
-pub spells-more : (test : ℕ → Bool) (fs : List ℕ) (g word : ℕ) → g < length fs → Spells test fs g → word ≡ spelled test (32 * g) 32
-    → Spells test (set fs g word) (g + 1)
-unfolding flagOf
-spells-more test fs g word long s e j h = go (ltb j (32 * g)) refl
-  where
-    go : (t : Bool) → ltb j (32 * g) ≡ t → getD (bits 32 (getD (set fs g word) (j / 32) 0)) (j % 32) false ≡ test j
-    go true q =
-        let low = ltb-true j (32 * g) q in
-        rw (getD-set-other fs g (j / 32) word 0 (λ z. omega arith)) (s j low)
-    go false q =
-        let high = ltb-false j (32 * g) q in
-        let here : j / 32 ≡ g = omega arith in
-        let place : 32 * g + j % 32 ≡ j = omega arith in
-        rw (here, getD-set-same fs g word 0 long, e) (bit-spelled test (32 * g) 32 (j % 32) (omega arith) ∙ ap test place)
-
--- nine words spell a test that fails past the ring
-pub spells-all : (test : ℕ → Bool) (fs : List ℕ) (g : ℕ) → 9 ≤ g → length fs ≡ 9 → Spells test fs g → ((j : ℕ) → slots ≤ j → test j ≡ false)
-    → (j : ℕ) → flagOf fs j ≡ test j
-unfolding flagOf
-spells-all test fs g most nine s past j = go (ltb j (32 * g)) refl
-  where
-    go : (t : Bool) → ltb j (32 * g) ≡ t → flagOf fs j ≡ test j
-    go true e = s j (ltb-true j (32 * g) e)
-    go false e =
-        let high = ltb-false j (32 * g) e in
-        rw (List·getD-eq-default fs 0 {n = j / 32} (omega arith)) (no-bit 32 (j % 32) ∙ sym (past j (omega arith)))
 
 -- ---- the flag of one slot replaced
 

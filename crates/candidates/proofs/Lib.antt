@@ -2,5 +2,5 @@ pub mod FlagLaws
 pub mod CellLaws
 pub mod TermLaws
 pub mod WalkLaws
-pub mod KeptLaws
 pub mod MatchLaws
+pub mod RowLaws

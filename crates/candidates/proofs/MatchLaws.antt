@@ -1,58 +1,90 @@
 -- Matching stored messages is matching paper's. Assumes nothing.
-use Prim.Native.Nat.{ℕ, zero, suc, _+_, _-_, _*_, _%_, _≤_, _<_}
+use Prim.Native.Nat.{ℕ, zero, suc, _+_, _-_, _%_, _≤_, _<_}
 use native.Mathlib.Nat.{not-suc-le-zero}
 use native.Mathlib.Omega.{arith}
-use mathlib.Core.Path.{_≡_, refl, sym, ap, ap₂, _∙_, subst}
+use mathlib.Core.Path.{_≡_, refl, sym, ap, ap₂, _∙_}
 use mathlib.Core.Bool.{Bool, true, false, cond, _||_}
 use mathlib.Core.Logic.{inl, inr}
 use mathlib.Core.List.{List, [], _∷_, _++_, map, append-assoc, append-nil}
 use lib.Seq.{take-nil}
 use lib.Dec.{eqb, ltb}
-use borrow.Author.Tests.{ltb-true, lt-ltb, le-ltb, eqb-true, eqb-false}
+use borrow.Author.Tests.{ltb-true, lt-ltb, eqb-true, eqb-false}
 use Rattle.paper.specs.Frame.{Pair, Pairs, countWidth, mostPairs}
-use Rattle.paper.specs.Impact.{score}
+use Rattle.paper.specs.Impact.{impactIn, scoreBy, score}
 use Rattle.paper.specs.Order.{In}
 use Rattle.paper.specs.Rank.{Query, Line, Entry, entry, line, lines, ranking}
 use Rattle.paper.specs.Sort.{select, inserts}
 use Rattle.paper.specs.Sound.{Messages}
-use Rattle.paper.specs.Threshold.{exceeds, reached}
+use Rattle.paper.specs.Threshold.{exceeds, exceedsBy, reached}
 use Rattle.paper.specs.Window.{Message}
 use Rattle.paper.specs.Layout.{slots}
 use Rattle.paper.proofs.RankLaws.{ranking-more}
 use Rattle.paper.proofs.SortLaws.{select-map}
 use Rattle.paper.proofs.Tests.{and-true}
-use Rattle.paper.proofs.ThresholdLaws.{score-agree, exceeds-agree}
-use Rattle.impact.specs.Cell.{RisingCells}
+use Rattle.paper.proofs.ThresholdLaws.{score-agree, exceeds-agree, score-most, exceeds-either, exceeds-none}
+use Rattle.impact.specs.Cell.{cellsOf, lookup}
 use Rattle.impact.proofs.CellLaws.{lookup-cells, rising-cells}
 use Rattle.rank.specs.Listing.{grown}
 use Rattle.rank.proofs.PaperLaws.{lines-grown}
 use Rattle.window.specs.Slot.{Slot, slot, stored, next, ring, window}
-use Rattle.candidates.specs.Match.{scoreCells, exceedsCells, reachedSlots, scored, AllRising}
+use Rattle.window.specs.Table.{highest, greatest}
+use Rattle.window.proofs.TableLaws.{highest-lookup}
+use Rattle.candidates.specs.Match.{scoreCells, exceedsCells, reachedSlots, scored}
 use Rattle.candidates.specs.Flags.{inRing}
-use Rattle.candidates.specs.Post.{grows, RisingRing}
+use Rattle.candidates.specs.Post.{grows}
 
 -- ---- a stored message
 
 pub score-stored : (qs : List Pair) (m : Message) → Pairs countWidth mostPairs (m .pairs) → scoreCells qs (stored m .cells) ≡ score qs (m .pairs)
 unfolding stored
-score-stored qs m v = score-agree qs (lookup-cells (m .pairs) v)
+score-stored qs m v = score-agree (λ t. lookup t (cellsOf (m .pairs))) (impactIn (m .pairs)) qs (λ p i. lookup-cells (m .pairs) v (p .term))
 
 pub exceeds-stored : (qs : List Pair) (hs : List ℕ) (m : Message) → Pairs countWidth mostPairs (m .pairs)
     → exceedsCells qs hs (stored m .cells) ≡ exceeds qs hs (m .pairs)
 unfolding stored
-exceeds-stored qs hs m v = exceeds-agree qs hs (lookup-cells (m .pairs) v)
+exceeds-stored qs hs m v = exceeds-agree (λ t. lookup t (cellsOf (m .pairs))) (impactIn (m .pairs)) qs hs (λ p i. lookup-cells (m .pairs) v (p .term))
 
 -- ---- a window of stored messages
-
-pub all-rising : (ms : List Message) → Messages ms → AllRising (map stored ms)
-unfolding stored
-all-rising [] v = tt
-all-rising (m ∷ ms) v = (rising-cells (m .pairs) (v .1), all-rising ms (v .2))
 
 pub reached-stored : (qs : List Pair) (hs : List ℕ) (ms : List Message) → Messages ms → reachedSlots qs hs (map stored ms) ≡ reached qs hs ms
 unfolding reachedSlots reached
 reached-stored qs hs [] v = refl
 reached-stored qs hs (m ∷ ms) v = ap₂ (λ (a b : Bool). a || b) (exceeds-stored qs hs m (v .1)) (reached-stored qs hs ms (v .2))
+
+-- ---- the greatest impacts of stored messages
+
+highest-stored : (m : Message) → Pairs countWidth mostPairs (m .pairs) → (t : ℕ) → highest t (stored m .cells) ≡ impactIn (m .pairs) t
+unfolding stored
+highest-stored m v t = highest-lookup t (cellsOf (m .pairs)) (rising-cells (m .pairs) v) ∙ lookup-cells (m .pairs) v t
+
+-- the greatest exceed a threshold exactly where one of the messages does
+pub reached-greatest : (qs : List Pair) (hs : List ℕ) (ms : List Message) → Messages ms → exceedsBy (λ t. greatest t (map stored ms)) qs hs ≡ reached qs hs ms
+unfolding greatest reached
+reached-greatest qs hs [] v = exceeds-none (λ t. 0) (λ t. refl) qs hs
+reached-greatest qs hs (m ∷ ms) v =
+    exceeds-either (λ t. highest t (stored m .cells)) (λ t. greatest t (map stored ms)) qs hs
+    ∙ ap₂ _||_
+    (exceeds-agree (λ t. highest t (stored m .cells)) (impactIn (m .pairs)) qs hs (λ p i. highest-stored m (v .1) (p .term)))
+    (reached-greatest qs hs ms (v .2))
+
+-- none of them scores above what the greatest come to
+pub score-greatest : (qs : List Pair) (ms : List Message) → Messages ms → (m : Message) → In m ms
+    → score qs (m .pairs) ≤ scoreBy (λ t. greatest t (map stored ms)) qs
+unfolding greatest
+score-greatest qs [] v m i = absurd i
+score-greatest qs (x ∷ ms) v m (inl e) =
+    score-most (impactIn (m .pairs)) (λ t. greatest t (map stored (x ∷ ms))) qs
+    (λ t. omega (arith, highest-stored x (v .1) t, ap (λ (y : Message). impactIn (y .pairs) t) e))
+score-greatest qs (x ∷ ms) v m (inr i) =
+    let ih = score-greatest qs ms (v .2) m i in
+    let more = score-most (λ t. greatest t (map stored ms)) (λ t. greatest t (map stored (x ∷ ms))) qs (λ t. omega arith) in
+    omega arith
+
+-- of one message they come to its score
+pub score-alone : (qs : List Pair) (m : Message) → Messages (m ∷ []) → scoreBy (λ t. greatest t (map stored (m ∷ []))) qs ≡ score qs (m .pairs)
+unfolding greatest
+score-alone qs m v =
+    score-agree (λ t. greatest t (map stored (m ∷ []))) (impactIn (m .pairs)) qs (λ p i. omega (arith, highest-stored m (v .1) (p .term)))
 
 -- messages put into a list one after the other are ranked: from the ranking of earlier ones on, and from nothing
 grows-on : (q : Query) (xs ms : List Message) → grows (q .k) (lines (ranking q xs)) (map (λ m. line (entry (score (q .terms)) m)) ms) ≡ lines (ranking q (xs ++ ms))
@@ -90,10 +122,6 @@ pub slot-in : (o n j : ℕ) → inRing o n j ≡ true → j < slots
 unfolding inRing
 slot-in o n j e = ltb-true j slots (and-true (ltb j slots) (ltb (away o j) n) e .0)
 
-pub past-in : (o n j : ℕ) → slots ≤ j → inRing o n j ≡ false
-unfolding inRing
-past-in o n j h = rw (le-ltb j slots h)
-
 -- of a slot, how far it is away decides
 pub ring-test : (o n j : ℕ) → j < slots → ltb (away o j) n ≡ inRing o n j
 unfolding inRing
@@ -126,14 +154,6 @@ ring-in o (suc n) j h k e = go (eqb j o) refl (ring-in (next o) n j (omega arith
         let l = near o (suc n) j e in
         let ne = eqb-false j o q in
         inr (ih (in-near (next o) n j k (omega arith)))
-
-rising-in : (w l : List ℕ) (j : ℕ) → AllRising (map (slot w) l) → In j l → RisingCells (slot w j .cells)
-rising-in w [] j r m = absurd m
-rising-in w (x ∷ l) j r (inl e) = subst (λ (i : ℕ). RisingCells (slot w i .cells)) (sym e) (r .0)
-rising-in w (x ∷ l) j r (inr m) = rising-in w l j (r .1) m
-
-pub rising-ring : (w : List ℕ) (o n : ℕ) → o < slots → AllRising (window w o n) → RisingRing w o n
-rising-ring w o n h r j k e = rising-in w (ring o n) j r (ring-in o n j h k e)
 
 -- ---- the slots that a test takes
 

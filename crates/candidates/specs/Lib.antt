@@ -1,3 +1,4 @@
 pub mod Match
 pub mod Flags
 pub mod Post
+pub mod Rows

@@ -1,13 +1,12 @@
 -- How a stored message matches a query: paper's score and thresholds, read off cells. Assumes nothing.
-use Prim.Native.Nat.{ℕ, _+_, _*_}
-use mathlib.Core.Bool.{Bool, true, false, _||_, _&&_}
+use Prim.Native.Nat.{ℕ}
+use mathlib.Core.Bool.{Bool, false, _||_}
 use mathlib.Core.List.{List, [], _∷_}
-use lib.Dec.{ltb}
 use Rattle.paper.specs.Frame.{Pair}
 use Rattle.paper.specs.Impact.{scoreBy}
 use Rattle.paper.specs.Rank.{Line}
 use Rattle.paper.specs.Threshold.{exceedsBy}
-use Rattle.impact.specs.Cell.{lookup, RisingCells}
+use Rattle.impact.specs.Cell.{lookup}
 use Rattle.window.specs.Slot.{Slot}
 
 abbrev pub scoreCells : List Pair → List ℕ → ℕ
@@ -21,16 +20,6 @@ unfoldable pub reachedSlots : List Pair → List ℕ → List Slot → Bool
 reachedSlots qs hs [] = false
 reachedSlots qs hs (x ∷ xs) = exceedsCells qs hs (x .cells) || reachedSlots qs hs xs
 
--- whether all of the slots score below a bound
-unfoldable pub lowSlots : List Pair → ℕ → List Slot → Bool
-lowSlots qs bound [] = true
-lowSlots qs bound (x ∷ xs) = ltb (scoreCells qs (x .cells)) bound && lowSlots qs bound xs
-
 -- a slot's serial and score
 abbrev pub scored : List Pair → Slot → Line
 scored qs x = record { serial = x .serial; score = scoreCells qs (x .cells) }
-
--- every slot's cells rise, as any message's do
-abbrev pub AllRising : List Slot → Type 0
-AllRising [] = Unit {0}
-AllRising (x ∷ xs) = RisingCells (x .cells) × AllRising xs

@@ -22,7 +22,7 @@ use Rattle.window.proofs.RingLaws.{moved-below, moved-trans}
 use Rattle.window.proofs.LogLaws.{holds-serial, advanced-shows, roomy-shows}
 use Rattle.engine.specs.declared.Reply.{Reply}
 use Rattle.engine.specs.Represents.{oldestOf, countOf, Represents}
-use Rattle.engine.specs.Inner.{Passed, Joined, Accepted, Ticked, Did}
+use Rattle.engine.specs.Inner.{Passed, moving, Joined, Accepted, Ticked, Did}
 use Rattle.engine.proofs.StepLaws.{taken-in}
 use Rattle.engine.proofs.PrepareLaws.{ticked, joined}
 
@@ -37,7 +37,7 @@ judged-kind log f h = ap (λ (b : Bool). cond b 7 (judgeKind log f)) (le-ltb (ti
 
 module _ (t life clock o n clock′ o′ n′ marks : ℕ) (w w₂ w₃ : List ℕ) (reply : Reply)
     (loaded : Loaded w clock o n) (life-is : life ≡ getD w lifeAt 0) (adv : Advanced w life o n t clock′ o′ n′)
-    (put : PutCursor t o′ n′ w w₂) (passed : Passed numbers w₂ o (n - n′) o′ n′ slots marks w₃)
+    (put : PutCursor t o′ n′ w w₂) (passed : Passed numbers w₂ (moving o n o′ n′ n′ slots) marks w₃)
     (em : reply .marks ≡ marks) (ed : reply .departures ≡ n - n′) where
   pub tick-accepted : (log : Log) → Represents log w → t < 2 ^ 32 → log .clock ≤ t → Accepted log (tick t) w reply w₃
   tick-accepted log r small late =
@@ -50,15 +50,15 @@ module _ (t life clock o n clock′ o′ n′ marks : ℕ) (w w₂ w₃ : List �
       let left : window w o′ n′ ≡ map stored (stays log (tick t)) =
       advanced-shows log (r .sound) late (r .shows) adv′
       ∙ ap (map stored) (sym (stays-standing log (tick t) (r .sound) ok ∙ staying-none (log .N) (log .T) t (log .messages))) in
-      let passed′ : Passed numbers w₂ (oldestOf w) (countOf w - n′) o′ (n′ + 0) slots marks w₃ =
-      subst (λ (c : ℕ). Passed numbers w₂ (oldestOf w) (countOf w - n′) o′ c slots marks w₃) (sym (add-zero n′))
-      (subst₂ (λ (a b : ℕ). Passed numbers w₂ a (b - n′) o′ n′ slots marks w₃) eo en passed) in
+      let passed′ : Passed numbers w₂ (moving (oldestOf w) (countOf w) o′ n′ (n′ + 0) slots) marks w₃ =
+      subst (λ (c : ℕ). Passed numbers w₂ (moving (oldestOf w) (countOf w) o′ n′ c slots) marks w₃) (sym (add-zero n′))
+      (subst₂ (λ (a b : ℕ). Passed numbers w₂ (moving a b o′ n′ n′ slots) marks w₃) eo en passed) in
       taken-in log (tick t) w r small ok o′ n′ moved left slots w₂
       (ticked w (oldestOf w) (countOf w) o′ n′ (r .oldest-below) (r .count-below) moved t w₂ put)
       marks w₃ passed′ (λ q. (unfold accept in refl, refl)) reply em (ed ∙ ap (λ (b : ℕ). b - n′) en)
 
 pub ticked-by : {t life clock o n clock′ o′ n′ marks : ℕ} {w w₂ w₃ : List ℕ}
-    → Loaded w clock o n → life ≡ getD w lifeAt 0 → Advanced w life o n t clock′ o′ n′ → PutCursor t o′ n′ w w₂ → Passed numbers w₂ o (n - n′) o′ n′ slots marks w₃
+    → Loaded w clock o n → life ≡ getD w lifeAt 0 → Advanced w life o n t clock′ o′ n′ → PutCursor t o′ n′ w w₂ → Passed numbers w₂ (moving o n o′ n′ n′ slots) marks w₃
     → Ticked t w (record { number = 0; marks = marks; departures = n - n′ }) w₃
 ticked-by {t} {life} {clock} {o} {n} {clock′} {o′} {n′} {marks} {w} {w₂} {w₃} loaded life-is adv put passed = record {
   number = refl;
@@ -128,8 +128,8 @@ module _ (t s life clock o n : ℕ) (ps : List Pair) (w : List ℕ) (loaded : Lo
           let left : window w o′ n′ ≡ map stored (stays log (message t s ps)) =
           roomy-shows w log t (r .sound) (moved-below low (adv .moved)) fresh-now (subst (λ (c : ℕ). Roomy c clock₁ o₁ n₁ clock₂ o′ n′) capacity-is roomy)
           ∙ ap (map stored) (sym (stays-standing log (message t s ps) (r .sound) ok)) in
-          let passed : Passed numbers (j .moved) (oldestOf w) (countOf w - n′) o′ (n′ + 1) ((o′ + n′) % slots) (reply .marks) w₃ =
-          subst₂ (λ (a b : ℕ). Passed numbers (j .moved) a (b - n′) o′ (n′ + 1) ((o′ + n′) % slots) (reply .marks) w₃) eo en (j .passed) in
+          let passed : Passed numbers (j .moved) (moving (oldestOf w) (countOf w) o′ n′ (n′ + 1) ((o′ + n′) % slots)) (reply .marks) w₃ =
+          subst₂ (λ (a b : ℕ). Passed numbers (j .moved) (moving a b o′ n′ (n′ + 1) ((o′ + n′) % slots)) (reply .marks) w₃) eo en (j .passed) in
           taken-in log (message t s ps) w r v ok o′ n′ moved-on left ((o′ + n′) % slots) (j .moved)
           (joined w (oldestOf w) (countOf w) o′ n′ (r .oldest-below) (r .count-below) moved-on t s ps (j .written) (j .moved) room (j .message) (j .cursor))
           (reply .marks) w₃ passed (λ q. (unfold accept in refl, refl)) reply refl (j .departures ∙ ap (λ (b : ℕ). b - n′) en)

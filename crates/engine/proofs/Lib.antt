@@ -1,6 +1,6 @@
+pub mod ArrivingLaws
 pub mod MarkLaws
 pub mod RepresentsLaws
-pub mod SameLaws
 pub mod UnmarkedLaws
 pub mod StartLaws
 pub mod ListLaws

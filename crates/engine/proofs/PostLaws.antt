@@ -15,10 +15,11 @@ use Rattle.paper.specs.Demand3.{marked, marksShape, markedShape, markedBy, repl
 use Rattle.paper.proofs.FrameLaws.{shape-valid, shape-number}
 use Rattle.memory.specs.Words.{words}
 use Rattle.memory.proofs.WordLaws.{same-bytes}
+use Rattle.query.specs.Record.{SameRecord}
 use Rattle.engine.specs.declared.Reply.{Reply}
 use Rattle.engine.specs.Represents.{Represents, keeping}
 use Rattle.engine.specs.Post.{callOf, replyOf, recordBytes, FrameRight, FramePost}
-use Rattle.engine.specs.Inner.{SameRecord, Did}
+use Rattle.engine.specs.Inner.{Did}
 use Rattle.engine.proofs.KindLaws.{Refusal}
 use Rattle.engine.proofs.UnmarkedLaws.{unmarked-kept}
 

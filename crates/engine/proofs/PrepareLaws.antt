@@ -3,33 +3,39 @@ use Prim.Native.Nat.{ℕ, _+_, _-_, _%_, _≤_, _<_}
 use native.Mathlib.Nat.{add-zero}
 use native.Mathlib.Numerals.{add-one}
 use native.Mathlib.Omega.{arith}
-use mathlib.Core.Path.{_≡_, refl, sym, ap, _∙_}
-use mathlib.Core.Bool.{Bool, true, false, cond, false≢true}
+use mathlib.Core.Path.{_≡_, refl, sym, ap, _∙_, subst}
+use mathlib.Core.Bool.{Bool, true, false, false≢true}
 use mathlib.Core.Logic.{_⊎_, inl, inr}
 use mathlib.Core.List.{List, [], _∷_, _++_, map, append-nil}
 use lib.Dec.{ltb}
-use borrow.Author.Tests.{lt-ltb, ltb-true, ltb-false}
+use borrow.Author.Tests.{ltb-true, ltb-false}
 use Rattle.paper.specs.Frame.{Pair}
 use Rattle.paper.specs.Frame.Frame.{message, tick}
 use Rattle.paper.specs.Window.{mostMessages}
 use Rattle.paper.specs.Layout.{slots, slotAt, slotWords, recordAt}
+use Rattle.paper.specs.Order.{In}
+use Rattle.paper.proofs.SortLaws.{in-left, in-right}
 use Rattle.window.specs.Slot.{Slot, slot, ring, window}
 use Rattle.window.specs.Cursor.{Moved, Written, PutCursor}
-use Rattle.window.proofs.RingLaws.{ring-last, moved-below, moved-end}
+use Rattle.window.proofs.RingLaws.{ring-last, moved-below, moved-end, moved-parts}
 use Rattle.window.proofs.SlotLaws.{slot-kept}
 use Rattle.candidates.specs.Flags.{inRing}
-use Rattle.query.specs.Post.{arriving}
-use Rattle.engine.proofs.SameLaws.{window-same}
+use Rattle.candidates.proofs.MatchLaws.{in-ring}
+use Rattle.query.proofs.RecordLaws.{map-agree}
+use Rattle.engine.proofs.ArrivingLaws.{arriving-one}
 use Rattle.engine.proofs.StepLaws.{Prepared, outside}
 
 module _ (w : List ℕ) (o n o′ n′ : ℕ) (low : o < slots) (few : n < slots) (moved : Moved o n o′ n′) where
   -- both parts of the window before are the same where its slots are
   module _ (w′ : List ℕ) (same : (j : ℕ) → j < slots → inRing o n j ≡ true → slot w′ j ≡ slot w j) where
+    slot-same : (j : ℕ) → In j (ring o (n - n′) ++ ring o′ n′) → slot w′ j ≡ slot w j
+    slot-same j i = let r = in-ring o n j low (subst (In j) (sym (moved-parts low moved)) i) in same j (r .0) (r .1)
+
     gone-same : window w′ o (n - n′) ≡ window w o (n - n′)
-    gone-same = window-same w w′ o n 0 (n - n′) o same low (omega arith) (omega arith) (omega arith)
+    gone-same = map-agree (slot w′) (slot w) (ring o (n - n′)) (λ j i. slot-same j (in-left j (ring o (n - n′)) (ring o′ n′) i))
 
     left-same : window w′ o′ n′ ≡ window w o′ n′
-    left-same = let c = moved .count-most in window-same w w′ o n (n - n′) n′ o′ same low (omega arith) (omega arith) (moved .oldest-is)
+    left-same = map-agree (slot w′) (slot w) (ring o′ n′) (λ j i. slot-same j (in-right j (ring o (n - n′)) (ring o′ n′) i))
 
   -- no message arrives
   pub ticked : (t : ℕ) (w′ : List ℕ) → PutCursor t o′ n′ w w′ → Prepared (tick t) w o n o′ n′ slots w′
@@ -64,9 +70,6 @@ module _ (w : List ℕ) (o n o′ n′ : ℕ) (low : o < slots) (few : n < slots
       go true e = let h = ltb-true j k e in inl (omega arith)
       go false e = let h = ltb-false j k e in inr (omega arith)
 
-  one : (k : ℕ) → k < slots → arriving k ≡ k ∷ []
-  one k h = ap (λ (b : Bool). cond {A = List ℕ} b (k ∷ []) []) (lt-ltb k slots h)
-
   -- a message arrives in the slot after the window
   pub joined : (t s : ℕ) (ps : List Pair) (w₁ w₂ : List ℕ) → n′ < mostMessages
       → Written ((o′ + n′) % slots) (record { time = t; serial = s; pairs = ps }) w w₁ → PutCursor t o′ (n′ + 1) w₁ w₂
@@ -89,7 +92,7 @@ module _ (w : List ℕ) (o n o′ n′ : ℕ) (low : o < slots) (few : n < slots
         slots-same = same;
         gone-same = gone-same w₂ same;
         left-same = left-same w₂ same;
-        come = ap (map (slot w₂)) (one k small) ∙ ap (λ (x : Slot). x ∷ []) (header k ∙ a .holds);
-        after = ap (ring o′) (add-one n′) ∙ ring-last o′ n′ (moved-below low moved) ∙ ap (λ (js : List ℕ). ring o′ n′ ++ js) (sym (one k small));
+        come = ap (map (slot w₂)) (arriving-one k small) ∙ ap (λ (x : Slot). x ∷ []) (header k ∙ a .holds);
+        after = ap (ring o′) (add-one n′) ∙ ring-last o′ n′ (moved-below low moved) ∙ ap (λ (js : List ℕ). ring o′ n′ ++ js) (sym (arriving-one k small));
         apart = λ h. ap (inRing o n) (moved-end low moved) ∙ outside o n low few;
       }

@@ -24,15 +24,15 @@ use Rattle.paper.proofs.LogLaws.{accept-sound, no-query, in-force-valid}
 use Rattle.memory.specs.Keeps.{Keeps}
 use Rattle.window.specs.Slot.{slot, stored, window}
 use Rattle.window.proofs.SlotLaws.{slot-kept, window-kept}
-use Rattle.query.specs.Record.{HoldsAt}
+use Rattle.query.specs.Record.{HoldsAt, SameRecord}
 use Rattle.query.specs.Post.{Registered, Cleared, Over}
+use Rattle.query.proofs.RecordLaws.{thresholds-same, holds-at-same}
 use Rattle.engine.specs.declared.Reply.{Reply}
 use Rattle.engine.specs.Represents.{oldestOf, countOf, Represents, keeping}
-use Rattle.engine.specs.Inner.{SameRecord, reachedIn, Accepted}
+use Rattle.engine.specs.Inner.{reachedIn, Accepted}
 use Rattle.paper.proofs.MarkLaws.{bitmap-small}
 use Rattle.engine.proofs.MarkLaws.{bitmap-same, bitmap-more}
 use Rattle.engine.proofs.RepresentsLaws.{query-terms, reached-by}
-use Rattle.engine.proofs.SameLaws.{same-thresholds, holds-still}
 
 -- ---- one record changed
 
@@ -78,9 +78,9 @@ module _ (p : ℕ) (w w′ : List ℕ) (keeps : Keeps (recordAt p) (recordAt p +
           subst (λ (x : ℕ). HoldsAt w′ x (oldestOf w) (countOf w) (seen log) (queryAt log′ x)) (eqb-true p q e) new
       each q h false e =
           subst (HoldsAt w′ q (oldestOf w) (countOf w) (seen log)) (sym (rest q (eqb-false p q e)))
-          (holds-still w w′ q (keeps .long) (other-record q (eqb-false p q e)) (oldestOf w) (countOf w) (r .oldest-below) (let l = r .count-below in omega arith)
+          (holds-at-same w w′ q (keeps .long) (other-record q (eqb-false p q e)) (oldestOf w) (countOf w) (r .oldest-below)
           (λ j l i. every-slot j l) (seen log) (queryAt log q)
-          (λ y z. query-terms (log .queries) q y (r .sound .queries) z .terms .at-most) (r .records q h))
+          (λ y z. query-terms (log .queries) q y (r .sound .queries) z) (r .records q h))
 
 -- ---- a query registered
 
@@ -167,7 +167,7 @@ module _ (t p : ℕ) (log : Log) (w w₁ w₂ : List ℕ) (r : Represents log w)
 
         same-reach : (ne : p ≡ q → ⊥) (x : Option Query) → ((y : Query) → x ≡ some y → length (y .terms) ≤ 8) → reachedIn w₁ q x gone ≡ reachedIn w q x gone
         same-reach ne none t = refl
-        same-reach ne (some x) t = rw (same-thresholds w w₁ q (c .keeps .long) (other-record p w w₁ (c .keeps) q ne) (length (x .terms)) (t x refl))
+        same-reach ne (some x) t = rw (thresholds-same w w₁ q (c .keeps .long) (other-record p w w₁ (c .keeps) q ne) (length (x .terms)) (t x refl))
 
         go : (b : Bool) → eqb p q ≡ b → (b || reachedBy (queryAt log q) (keeping w q) gone) ≡ (b || reachedBy (queryAt without q) (keeping w₁ q) gone)
         go true e = refl

@@ -1,5 +1,5 @@
 -- An accepted frame: how the window of a log changes, and that memory then holds the log after it. Assumes nothing.
-use Prim.Native.Nat.{ℕ, _+_, _-_, _%_, _≤_, _<_}
+use Prim.Native.Nat.{ℕ, _+_, _-_, _%_, _<_}
 use native.Mathlib.Nat.{le-refl}
 use native.Mathlib.Omega.{arith}
 use mathlib.Core.Path.{_≡_, refl, sym, ap, ap₂, _∙_, subst, subst₂}
@@ -15,6 +15,7 @@ use Rattle.paper.specs.Window.{Message}
 use Rattle.paper.specs.Layout.{slots, clockAt, oldestAt, countAt, recordAt}
 use Rattle.paper.specs.Log.{Log, queryAt, inForceNow, timeOf, judgeFrame, arrivals, accept, departs, seen, stays, movedFor}
 use Rattle.paper.specs.Order.{Split}
+use Rattle.paper.specs.Sound.{Terms}
 use Rattle.paper.specs.Demand3.{marked, bitmap, names}
 use Rattle.paper.proofs.LogLaws.{in-force-before, in-force-after, accept-sound, in-force-valid, departs-first, arrivals-valid}
 use Rattle.paper.proofs.SortLaws.{split-first}
@@ -24,14 +25,14 @@ use Rattle.window.proofs.RingLaws.{ring-length, moved-below, moved-parts}
 use Rattle.window.proofs.SlotLaws.{window-kept}
 use Rattle.candidates.specs.Flags.{inRing}
 use Rattle.candidates.proofs.MatchLaws.{ring-test}
-use Rattle.query.specs.Record.{HoldsAt}
+use Rattle.query.specs.Record.{HoldsAt, SameRecord}
 use Rattle.query.specs.Post.{Change, arriving}
+use Rattle.query.proofs.RecordLaws.{thresholds-same, holds-at-same}
 use Rattle.engine.specs.declared.Reply.{Reply}
 use Rattle.engine.specs.Represents.{oldestOf, countOf, Represents, keeping}
-use Rattle.engine.specs.Inner.{SameRecord, Passed, reachedIn, Accepted}
+use Rattle.engine.specs.Inner.{Passed, moving, reachedIn, Accepted}
 use Rattle.engine.proofs.MarkLaws.{bitmap-same}
 use Rattle.engine.proofs.RepresentsLaws.{query-terms, reached-by}
-use Rattle.engine.proofs.SameLaws.{same-thresholds, holds-still}
 
 -- the slot after a window isn't in it
 pub outside : (o n : ℕ) → o < slots → n < slots → inRing o n ((o + n) % slots) ≡ false
@@ -100,29 +101,30 @@ module _ (log : Log) (f : Frame) (w : List ℕ) (r : Represents log w) (v : Vali
       stay = p .left-same ∙ left;
       come = p .come;
       apart = λ h. ap (λ (k : ℕ). inRing (oldestOf w) k newest) all ∙ p .apart h;
+      distinct = r .sound .distinct;
       valid = in-force-valid log (r .sound);
       valid-new = arrivals-valid f v;
     }
 
-    few : (q : ℕ) (y : Query) → queryAt log q ≡ some y → length (y .terms) ≤ 8
-    few q y e = query-terms (log .queries) q y (r .sound .queries) e .terms .at-most
+    terms : (q : ℕ) (y : Query) → queryAt log q ≡ some y → Terms y
+    terms q y e = query-terms (log .queries) q y (r .sound .queries) e
 
     -- the records are as they were
     before-holds : (q : ℕ) → q < numbers → HoldsAt w₂ q (oldestOf w) (countOf w - n′ + n′) (λ _. inForceNow log) (queryAt log q)
     unfolding seen
     before-holds q h =
         subst (λ (k : ℕ). HoldsAt w₂ q (oldestOf w) k (seen log) (queryAt log q)) (sym all)
-        (holds-still w w₂ q (p .long) (p .records q h) (oldestOf w) (countOf w) (r .oldest-below) (let c = r .count-below in omega arith) (p .slots-same)
-        (seen log) (queryAt log q) (few q) (r .records q h))
+        (holds-at-same w w₂ q (p .long) (p .records q h) (oldestOf w) (countOf w) (r .oldest-below) (p .slots-same)
+        (seen log) (queryAt log q) (terms q) (r .records q h))
 
     -- the thresholds too
-    reached-same : (q : ℕ) → q < numbers → (x : Option Query) → ((y : Query) → x ≡ some y → length (y .terms) ≤ 8) → (ms : Query → List Message)
+    reached-same : (q : ℕ) → q < numbers → (x : Option Query) → ((y : Query) → x ≡ some y → Terms y) → (ms : Query → List Message)
         → reachedIn w₂ q x ms ≡ reachedIn w q x ms
     reached-same q h none t ms = refl
-    reached-same q h (some x) t ms = rw (same-thresholds w w₂ q (p .long) (p .records q h) (length (x .terms)) (t x refl))
+    reached-same q h (some x) t ms = rw (thresholds-same w w₂ q (p .long) (p .records q h) (length (x .terms)) (t x refl .terms .at-most))
 
     module _ (marks : ℕ) (w₃ : List ℕ)
-        (passed : Passed numbers w₂ (oldestOf w) (countOf w - n′) o′ (n′ + length (arrivals f)) newest marks w₃)
+        (passed : Passed numbers w₂ (moving (oldestOf w) (countOf w) o′ n′ (n′ + length (arrivals f)) newest) marks w₃)
         (stable : (q : ℕ) → (queryAt (accept log f) q ≡ queryAt log q) × (names f q ≡ false)) where
       done : ((q : ℕ) → q < numbers → HoldsAt w₃ q o′ (n′ + length (arrivals f)) (λ _. stays log f ++ arrivals f) (queryAt log q))
           × (marks ≡ bitmap (λ q. reachedIn w₂ q (queryAt log q) (movedFor log f)) numbers)
@@ -166,7 +168,7 @@ module _ (log : Log) (f : Frame) (w : List ℕ) (r : Represents log w) (v : Vali
       -- a query is marked where the frame reaches it
       marks-are : (q : ℕ) → q < numbers → marked log (keeping w) f q ≡ reachedIn w₂ q (queryAt log q) (movedFor log f)
       unfolding marked
-      marks-are q h = rw (stable q .1) (reached-by log w q (movedFor log f) r h ∙ sym (reached-same q h (queryAt log q) (few q) (movedFor log f)))
+      marks-are q h = rw (stable q .1) (reached-by log w q (movedFor log f) r h ∙ sym (reached-same q h (queryAt log q) (terms q) (movedFor log f)))
 
       -- the frame is taken in
       pub taken-in : (reply : Reply) → reply .marks ≡ marks → reply .departures ≡ countOf w - n′ → Accepted log f w reply w₃

@@ -18,10 +18,10 @@ use Rattle.paper.specs.Demand3.{names, reachedBy, marked}
 use Rattle.paper.proofs.Tests.{or-false}
 use Rattle.paper.proofs.LogLaws.{sees}
 use Rattle.paper.proofs.ThresholdLaws.{same-candidates}
-use Rattle.query.specs.Record.{keptOf, thresholds, list, Holds, HoldsAt}
+use Rattle.query.specs.Record.{keptOf, thresholds, list, Holds, HoldsAt, SameRecord}
+use Rattle.query.proofs.RecordLaws.{thresholds-same, list-same}
 use Rattle.engine.specs.Represents.{oldestOf, countOf, Represents, keeping}
-use Rattle.engine.specs.Inner.{SameRecord, reachedIn}
-use Rattle.engine.proofs.SameLaws.{same-thresholds, same-list}
+use Rattle.engine.specs.Inner.{reachedIn}
 use Rattle.engine.proofs.RepresentsLaws.{query-terms, kept-none, kept-some, reached-by}
 
 module _ (w w′ : List ℕ) (q : ℕ) (long : length w′ ≡ length w) (same : SameRecord w w′ q) where
@@ -30,13 +30,13 @@ module _ (w w′ : List ℕ) (q : ℕ) (long : length w′ ≡ length w) (same :
       → candidates (x .terms) (thresholds w q (length (x .terms))) ms ≡ candidates (x .terms) (thresholds w q (length (x .terms))) ms′
       → keptOf w′ q o′ n′ (length (x .terms)) ≡ keptOf w q o n (length (x .terms))
   same-kept o n o′ n′ ms ms′ x t h h′ c =
-      let hs : thresholds w′ q (length (x .terms)) ≡ thresholds w q (length (x .terms)) = same-thresholds w w′ q long same (length (x .terms)) (t .terms .at-most) in
+      let hs : thresholds w′ q (length (x .terms)) ≡ thresholds w q (length (x .terms)) = thresholds-same w w′ q long same (length (x .terms)) (t .terms .at-most) in
       let those : keptOf w′ q o′ n′ (length (x .terms)) .candidates ≡ keptOf w q o n (length (x .terms)) .candidates =
       h′ .settled .above
       ∙ ap (λ (u : List ℕ). serials (candidates (x .terms) u ms′)) hs
       ∙ ap serials (sym c)
       ∙ sym (h .settled .above) in
-      λ i. record { thresholds = hs i; candidates = those i; list = same-list w w′ q long same i }
+      λ i. record { thresholds = hs i; candidates = those i; list = list-same w w′ q long same i }
 
 -- a frame that doesn't name a number leaves its query
 query-stays : (log : Log) (f : Frame) (q : ℕ) → names f q ≡ false → queryAt (accept log f) q ≡ queryAt log q

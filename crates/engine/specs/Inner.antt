@@ -11,34 +11,36 @@ use Rattle.paper.specs.Window.{Message}
 use Rattle.paper.specs.Log.{Log, judgeFrame, accept, departs}
 use Rattle.paper.specs.Sound.{Queries}
 use Rattle.paper.specs.Threshold.{reached}
-use Rattle.paper.specs.Layout.{slots, recordAt, recordWords}
+use Rattle.paper.specs.Layout.{slots, recordAt}
 use Rattle.paper.specs.Demand3.{marked, bitmap}
 use Rattle.memory.specs.Words.{words}
 use Rattle.memory.specs.Keeps.{Keeps}
 use Rattle.window.specs.Cursor.{PutCursor, Written}
-use Rattle.query.specs.Record.{thresholds, HoldsAt}
+use Rattle.query.specs.Record.{thresholds, HoldsAt, SameRecord}
+use Rattle.query.specs.declared.Move.{Move}
 use Rattle.query.specs.Post.{Change}
 use Rattle.engine.specs.declared.Reply.{Reply}
 use Rattle.engine.specs.Represents.{Represents, keeping}
-
--- the same record, word for word
-abbrev pub SameRecord : List ℕ → List ℕ → ℕ → Type 0
-SameRecord w w′ q = (i : ℕ) → i < recordWords → getD w′ (recordAt q + i) 0 ≡ getD w (recordAt q + i) 0
 
 -- whether a message that goes or comes reaches the query at a number
 abbrev pub reachedIn : List ℕ → ℕ → Option Query → (Query → List Message) → Bool
 reachedIn w q none ms = false
 reachedIn w q (some query) ms = reached (query .terms) (thresholds w q (length (query .terms))) (ms query)
 
--- the first m records are updated for a change of the window, and the marks of those reached are set
-pub record Passed (m : ℕ) (w : List ℕ) (o d o′ count newest marks : ℕ) (w′ : List ℕ) : Type 0 where
-  pub keeps : Keeps (recordAt 0) (recordAt m) w w′
-  pub small : marks < 2 ^ m
-  pub right : (s : ℕ) (aa ga sa ca : List Message) (qs : List (Option Query)) → Change w o d o′ s newest aa ga sa ca → count ≡ s + length ca → Queries qs
-      → ((q : ℕ) → q < numbers → HoldsAt w q o (d + s) (λ _. aa) (getD qs q none))
-      → ((q : ℕ) → q < m → HoldsAt w′ q o′ count (λ _. sa ++ ca) (getD qs q none))
-      × (marks ≡ bitmap (λ q. reachedIn w q (getD qs q none) (λ _. ga ++ ca)) m)
-      × ((q : ℕ) → q < m → reachedIn w q (getD qs q none) (λ _. ga ++ ca) ≡ false → SameRecord w w′ q)
+-- the first n records are updated for what a frame moves, and the marks of those reached are set
+pub record Passed (n : ℕ) (w : List ℕ) (m : Move) (marks : ℕ) (w′ : List ℕ) : Type 0 where
+  pub keeps : Keeps (recordAt 0) (recordAt n) w w′
+  pub small : marks < 2 ^ n
+  pub right : (s : ℕ) (aa ga sa ca : List Message) (qs : List (Option Query)) → Change w (m .gone) (m .departed) (m .first) s (m .newest) aa ga sa ca
+      → m .count ≡ s + length ca → Queries qs
+      → ((q : ℕ) → q < numbers → HoldsAt w q (m .gone) (m .departed + s) (λ _. aa) (getD qs q none))
+      → ((q : ℕ) → q < n → HoldsAt w′ q (m .first) (m .count) (λ _. sa ++ ca) (getD qs q none))
+      × (marks ≡ bitmap (λ q. reachedIn w q (getD qs q none) (λ _. ga ++ ca)) n)
+      × ((q : ℕ) → q < n → reachedIn w q (getD qs q none) (λ _. ga ++ ca) ≡ false → SameRecord w w′ q)
+
+-- what a frame moves where n slots from slot o on were the window and n′ of them, from slot o′ on, stay
+abbrev pub moving : (o n o′ n′ count newest : ℕ) → Move
+moving o n o′ n′ count newest = record { gone = o; departed = n - n′; first = o′; count = count; newest = newest }
 
 -- a message is taken into the slot after the window, which is then `n′ + 1` slots from slot `o′` on, and every record is updated
 pub record Joined (m : Message) (o n o′ n′ : ℕ) (w : List ℕ) (r : Reply) (w′ : List ℕ) : Type 0 where
@@ -48,7 +50,7 @@ pub record Joined (m : Message) (o n o′ n′ : ℕ) (w : List ℕ) (r : Reply)
   pub message : Written ((o′ + n′) % slots) m w written
   pub moved : List ℕ
   pub cursor : PutCursor (m .time) o′ (n′ + 1) written moved
-  pub passed : Passed numbers moved o (n - n′) o′ (n′ + 1) ((o′ + n′) % slots) (r .marks) w′
+  pub passed : Passed numbers moved (moving o n o′ n′ (n′ + 1) ((o′ + n′) % slots)) (r .marks) w′
 
 -- a frame that the log accepts is taken in
 pub record Accepted (log : Log) (f : Frame) (w : List ℕ) (r : Reply) (w′ : List ℕ) : Type 0 where

@@ -1,6 +1,7 @@
 // The engine: frames in, a ranked list for each registered query kept in lent memory.
 ghost use mathlib.Core.Path.{_≡_};
 ghost use Prim.Native.Nat.{ℕ, _+_, _%_, _<_, _≤_, _^_};
+ghost use mathlib.Core.List.{map};
 ghost use lib.ListN.{length, getD, replicate, take};
 ghost use Rattle.paper.specs.Frame.{Frame, numbers, termWidth, countWidth, weightWidth, mostPairs, mostTerms, mostListed};
 ghost use Rattle.paper.specs.Write.{side-by-side};
@@ -9,11 +10,15 @@ ghost use Rattle.paper.specs.Layout.{stateLength, slots, capacityAt};
 ghost use Rattle.paper.specs.Log.{inRanges};
 ghost use Rattle.memory.specs.Words.{words};
 ghost use Rattle.engine.specs.Post.{StartPost, FramePost, ListPost, PostingsPost};
+ghost use Rattle.window.specs.Slot.{slot};
+ghost use Rattle.window.specs.Table.{termLimit, RaisedBy};
 ghost use Rattle.window.specs.Cursor.{Moved};
+ghost use Rattle.query.specs.Post.{arriving};
 ghost use Rattle.engine.specs.Inner.{Passed, Joined, Did, Ticked};
 use frame::Kind;
 use paper::MOST_PAIRS;
 use paper::layout;
+use query::Move;
 use rank::Ranked;
 use window::Cursor;
 
@@ -100,26 +105,31 @@ pub fn start(state: &mut [u8], capacity: u32, life: u32) -> u32
     0
 }
 
-// Every registered query is updated where the frame reaches it; the marks of those.
-fn update_all(
-    state: &mut [u8],
-    gone: usize,
-    departed: usize,
-    first: usize,
-    count: usize,
-    newest: usize,
-) -> u32
-    requires { ⌜ length (now state) ≡ stateLength ⌝ }
-    requires { ⌜ (gone < slots) × (first < slots) × (count < slots) ⌝ }
-    ensures { λ r. ⌜ Passed numbers (words (now (state .entry))) gone departed first count newest r (words (now (state .exit))) ⌝ }
+// A table raised to the impacts of the arriving message, where there is one.
+fn raise_newest(state: &[u8], newest: usize, table: &mut [u16])
+    requires { ⌜ (length (now state) ≡ stateLength) × (length (now table) ≡ termLimit) ⌝ }
+    ensures { λ _. ⌜ (length (now (table .exit)) ≡ termLimit) × RaisedBy (map (slot (words (now (state .entry)))) (arriving newest)) (now (table .entry)) (now (table .exit)) ⌝ }
 {
-    let mut moved = [false; paper::TERMS];
-    query::add_moved(state, gone, departed, newest, &mut moved);
+    if newest < layout::SLOTS {
+        window::raise_all(state, newest, 1, table);
+    }
+}
+
+// Every registered query is updated where the frame reaches it; the marks of those. What comes and what goes is looked up in tables, made once for all.
+fn update_all(state: &mut [u8], moved: Move) -> u32
+    requires { ⌜ length (now state) ≡ stateLength ⌝ }
+    requires { ⌜ (moved .gone < slots) × (moved .first < slots) × (moved .count < slots) ⌝ }
+    ensures { λ r. ⌜ Passed numbers (words (now (state .entry))) moved r (words (now (state .exit))) ⌝ }
+{
+    let mut coming = [0u16; paper::TERMS];
+    let mut going = [0u16; paper::TERMS];
+    raise_newest(state, moved.newest, &mut coming);
+    window::raise_all(state, moved.gone, moved.departed, &mut going);
     let mut marks: u32 = 0;
     let mut q: usize = 0;
     while q < paper::NUMBERS {
         if query::in_use(state, q) {
-            if query::update(state, q, gone, departed, first, count, newest, &moved) {
+            if query::update(state, q, moved, &coming, &going) {
                 marks += wire::pow2(q);
             }
         }
@@ -155,7 +165,8 @@ fn join(
     requires { ⌜ (length (now state) ≡ stateLength) × (m ≤ mostPairs) ⌝ }
     requires { ⌜ ((i : ℕ) → i < m → (getD terms i 0 < 2 ^ termWidth) × (getD counts i 0 < 2 ^ countWidth)) ⌝ }
     requires { ⌜ (before .oldest < slots) × (before .count < slots) × (after .count < mostMessages) × Moved (before .oldest) (before .count) (after .oldest) (after .count) ⌝ }
-    ensures { λ r. ⌜ Joined (record { time = time; serial = serial; pairs = side-by-side m terms counts }) (before .oldest) (before .count) (after .oldest) (after .count) (words (now (state .entry))) r (words (now (state .exit))) ⌝ }
+    ensures { λ r. ⌜ Joined (record { time = time; serial = serial; pairs = side-by-side m terms counts })
+        (before .oldest) (before .count) (after .oldest) (after .count) (words (now (state .entry))) r (words (now (state .exit))) ⌝ }
 {
     let gone = before.oldest;
     let oldest = after.oldest;
@@ -164,7 +175,14 @@ fn join(
     let newest = (oldest + count) % layout::SLOTS;
     window::put_message(state, newest, time, serial, m, terms, counts);
     window::put_cursor(state, time, oldest, count + 1);
-    let marks = update_all(state, gone, leaving, oldest, count + 1, newest);
+    let moved = Move {
+        gone,
+        departed: leaving,
+        first: oldest,
+        count: count + 1,
+        newest,
+    };
+    let marks = update_all(state, moved);
     Reply {
         number: 0,
         marks,
@@ -212,7 +230,14 @@ fn advance(state: &mut [u8], time: u32) -> Reply
     let count = after.count;
     let departed = had - count;
     window::put_cursor(state, time, oldest, count);
-    let marks = update_all(state, gone, departed, oldest, count, layout::SLOTS);
+    let moved = Move {
+        gone,
+        departed,
+        first: oldest,
+        count,
+        newest: layout::SLOTS,
+    };
+    let marks = update_all(state, moved);
     Reply {
         number: 0,
         marks,

@@ -7,10 +7,10 @@ use native.Mathlib.Omega.{arith}
 use mathlib.Core.Path.{_≡_, refl, sym, ap, ap₂, _∙_}
 use mathlib.Core.Bool.{Bool, true, false, cond}
 use mathlib.Core.List.{List, [], _∷_, map}
-use lib.ListN.{length, getD, take, length-map, List·getD-map}
-use lib.Seq.{getD-take}
+use lib.ListN.{length, getD, take, drop, length-map, drop-of-length-le, List·getD-map}
+use lib.Seq.{getD-take, drop-cons}
 use lib.Dec.{eqb, leb, ltb}
-use borrow.Author.Tests.{ltb-true, leb-true, ne-eqb}
+use borrow.Author.Tests.{ltb-true, leb-true, eq-eqb, ne-eqb}
 use Rattle.paper.specs.Frame.{Pair, Pairs, AllFit, termWidth, countWidth, mostPairs, positive, rises}
 use Rattle.paper.specs.Impact.{impact, squares, countOf, impactIn}
 use Rattle.paper.specs.Write.{side-by-side}
@@ -92,6 +92,21 @@ module _ (ps : List Pair) (v : Pairs countWidth mostPairs ps) where
 
   pub rising-cells : RisingCells (cellsOf ps)
   rising-cells i j h k = rw (term-at i, term-at j) (rises-at 0 ps (v .in-order) i j h (rw length-cells at k))
+
+-- ---- a term looked up cell by cell
+
+module _ (t i : ℕ) (cs : List ℕ) where
+  pub lookup-here : i < length cs → cellTerm (getD cs i 0) ≡ t → lookup t (drop i cs) ≡ cellImpact (getD cs i 0)
+  unfolding lookup
+  lookup-here h e = rw (drop-cons cs i 0 h, eq-eqb _ _ e)
+
+  pub lookup-next : i < length cs → (cellTerm (getD cs i 0) ≡ t → ⊥) → lookup t (drop (i + 1) cs) ≡ lookup t (drop i cs)
+  unfolding lookup
+  lookup-next h e = rw (add-one, drop-cons cs i 0 h, ne-eqb _ _ e)
+
+  pub lookup-end : length cs ≤ i → lookup t (drop i cs) ≡ 0
+  unfolding lookup
+  lookup-end h = rw (drop-of-length-le cs h)
 
 -- ---- a query's terms, as a list or an array that starts with them
 

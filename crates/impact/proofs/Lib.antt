@@ -1,3 +1,2 @@
 pub mod CellLaws
 pub mod Halving
-pub mod Merge

@@ -1,6 +1,5 @@
 -- A cell: one pair of a message with its impact, packed into a word. Assumes nothing.
-use Prim.Native.Nat.{ℕ, zero, suc, _+_, _*_, _/_, _%_, _^_, _≤_, _<_}
-use mathlib.Core.Path.{_≡_}
+use Prim.Native.Nat.{ℕ, zero, suc, _+_, _*_, _/_, _%_, _^_, _<_}
 use mathlib.Core.Bool.{cond}
 use mathlib.Core.List.{List, [], _∷_, map}
 use lib.ListN.{length, getD}
@@ -52,10 +51,3 @@ RisingCells cs = (i j : ℕ) → i < j → j < length cs → cellTerm (getD cs i
 
 abbrev pub RisingTerms : ℕ → List ℕ → Type 0
 RisingTerms n ts = (i j : ℕ) → i < j → j < n → getD ts i 0 < getD ts j 0
-
--- A message's impacts in the first n of a query's terms. Whatever memory holds they have fourteen bits; where both rise, as in any message and
--- query, they are right.
-pub record Looked (cs ts : List ℕ) (n : ℕ) (r : List ℕ) : Type 0 where
-  pub small : (i : ℕ) → getD r i 0 < 2 ^ impactWidth
-  pub unused : (i : ℕ) → n ≤ i → getD r i 0 ≡ 0
-  pub right : RisingCells cs → RisingTerms n ts → (i : ℕ) → i < n → getD r i 0 ≡ lookup (getD ts i 0) cs

@@ -1,11 +1,10 @@
 // The impact of a term in a message: the cosine of document 001, scaled to whole numbers.
 ghost use mathlib.Core.Path.{_≡_};
 ghost use Prim.Native.Nat.{ℕ, _+_, _*_, _^_, _<_, _≤_};
-ghost use lib.ListN.{length, getD, take, drop};
-ghost use Rattle.paper.specs.Frame.{termWidth, countWidth, mostPairs, mostTerms};
+ghost use lib.ListN.{getD};
+ghost use Rattle.paper.specs.Frame.{termWidth, countWidth, mostPairs};
 ghost use Rattle.paper.specs.Impact.{impact};
-ghost use Rattle.memory.specs.Words.{words};
-ghost use Rattle.impact.specs.Cell.{impactWidth, packed, squaresOf, Looked};
+ghost use Rattle.impact.specs.Cell.{impactWidth, packed, squaresOf};
 
 pub struct Impact {
     pub value: u32,
@@ -64,32 +63,4 @@ pub fn squared(counts: [u32; paper::MOST_PAIRS], m: usize) -> u32
         i += 1;
     }
     sum
-}
-
-// The impacts that the message whose m cells start at word `at` has in the first n terms of a query: one walk over both, which rise.
-pub fn impacts(s: &[u8], at: usize, m: usize, terms: [u32; 8], n: usize) -> [u32; 8]
-    requires { ⌜ (4 * (at + m) ≤ length (now s)) × (n ≤ mostTerms) ⌝ }
-    ensures { λ r. ⌜ Looked (take m (drop at (words (now (s .entry))))) terms n r ⌝ }
-{
-    let mut found = [0u32; 8];
-    let mut i: usize = 0;
-    let mut q: usize = 0;
-    while i < m {
-        if n <= q {
-            return found;
-        }
-        let c = memory::get(s, at + i);
-        let has = c / TERM_FACTOR;
-        let wants = terms[q];
-        if has < wants {
-            i += 1;
-        } else if wants < has {
-            q += 1;
-        } else {
-            found[q] = c % COUNT_FACTOR;
-            i += 1;
-            q += 1;
-        }
-    }
-    found
 }

@@ -7,7 +7,7 @@ use mathlib.Core.List.{List}
 use lib.ListN.{length, getD, set, take, drop, length-set, length-take, length-drop}
 use lib.Seq.{getD-set-other, getD-take, getD-drop, ext-getD}
 use Rattle.memory.specs.Keeps.{Keeps}
-use Rattle.memory.specs.Words.{putFour, putWord, putBig}
+use Rattle.memory.specs.Words.{putFour, putBig}
 
 pub keeps-refl : (a e : ℕ) (s : List ℕ) → Keeps a e s s
 keeps-refl a e s = record { long = refl; below = λ i h. refl; above = λ i h. refl }
@@ -34,10 +34,6 @@ unfolding putFour
 four-keeps s i a b c d =
     keeps-more (keeps-more (keeps-more (keeps-more (keeps-refl (4 * i) (4 * i + 4) s) (4 * i) a (omega arith) (omega arith)) (4 * i + 1) b (omega arith) (omega arith))
     (4 * i + 2) c (omega arith) (omega arith)) (4 * i + 3) d (omega arith) (omega arith)
-
-pub put-keeps : (s : List ℕ) (i v : ℕ) → Keeps (4 * i) (4 * i + 4) s (putWord s i v)
-unfolding putWord
-put-keeps s i v = four-keeps s i _ _ _ _
 
 pub big-keeps : (s : List ℕ) (i v : ℕ) → Keeps (4 * i) (4 * i + 4) s (putBig s i v)
 unfolding putBig

@@ -7,6 +7,7 @@ pub mod SortLaws
 pub mod RankLaws
 pub mod ThresholdLaws
 pub mod LeadLaws
+pub mod PlaceLaws
 pub mod MarkLaws
 pub mod FrameLaws
 pub mod WriteLaws

@@ -1,6 +1,6 @@
 -- Why thresholds are enough: candidates give the whole ranking, and a query that a change of the window doesn't reach stays settled.
 -- Assumes nothing.
-use Prim.Native.Nat.{ℕ, zero, suc, _+_, _*_, _-_, _≤_, _<_}
+use Prim.Native.Nat.{ℕ, zero, suc, _+_, _*_, _≤_, _<_, max}
 use native.Mathlib.Nat.{eq-or-lt-of-le, mul-le-mul-left, mul-zero}
 use native.Mathlib.Omega.{arith}
 use mathlib.Core.Path.{_≡_, refl, sym, ap, ap₂, _∙_, subst}
@@ -22,19 +22,55 @@ use Rattle.paper.proofs.Tests.{by-bool, or-false, or-true}
 use Rattle.paper.proofs.SortLaws.{in-left, in-right, select-all, select-in, select-take, select-select, select-change, select-map, count-sort, best}
 use Rattle.paper.proofs.RankLaws.{ranking-length, ranking-last}
 
--- ---- two ways to give a term's impact that agree
+-- ---- what gives a term's impact
 
-module _ {f g : ℕ → ℕ} where
-  pub score-agree : (qs : List Pair) → ((t : ℕ) → f t ≡ g t) → scoreBy f qs ≡ scoreBy g qs
+module _ (f g : ℕ → ℕ) where
+  -- two that agree on the query's terms
+  pub score-agree : (qs : List Pair) → ((p : Pair) → In p qs → f (p .term) ≡ g (p .term)) → scoreBy f qs ≡ scoreBy g qs
   unfolding scoreBy
   score-agree [] e = refl
-  score-agree (q ∷ qs) e = ap₂ (λ (x y : ℕ). q .amount * x + y) (e (q .term)) (score-agree qs e)
+  score-agree (q ∷ qs) e = ap₂ (λ (x y : ℕ). q .amount * x + y) (e q (inl refl)) (score-agree qs (λ p m. e p (inr m)))
 
-  pub exceeds-agree : (qs : List Pair) (hs : List ℕ) → ((t : ℕ) → f t ≡ g t) → exceedsBy f qs hs ≡ exceedsBy g qs hs
+  pub exceeds-agree : (qs : List Pair) (hs : List ℕ) → ((p : Pair) → In p qs → f (p .term) ≡ g (p .term)) → exceedsBy f qs hs ≡ exceedsBy g qs hs
   unfolding exceedsBy
   exceeds-agree [] hs e = refl
   exceeds-agree (q ∷ qs) [] e = refl
-  exceeds-agree (q ∷ qs) (h ∷ hs) e = ap₂ (λ (x : ℕ) (b : Bool). ltb h x || b) (e (q .term)) (exceeds-agree qs hs e)
+  exceeds-agree (q ∷ qs) (h ∷ hs) e = ap₂ (λ (x : ℕ) (b : Bool). ltb h x || b) (e q (inl refl)) (exceeds-agree qs hs (λ p m. e p (inr m)))
+
+  -- one that gives no more scores no more
+  pub score-most : (qs : List Pair) → ((t : ℕ) → f t ≤ g t) → scoreBy f qs ≤ scoreBy g qs
+  unfolding scoreBy
+  score-most [] l = omega arith
+  score-most (q ∷ qs) l = let ih = score-most qs l in omega (arith, mul-le-mul-left (q .amount) (l (q .term)))
+
+  -- the greater of two exceeds a threshold where one of them does
+  pub exceeds-either : (qs : List Pair) (hs : List ℕ) → exceedsBy (λ t. max (f t) (g t)) qs hs ≡ (exceedsBy f qs hs || exceedsBy g qs hs)
+  unfolding exceedsBy
+  exceeds-either [] hs = refl
+  exceeds-either (q ∷ qs) [] = refl
+  exceeds-either (q ∷ qs) (h ∷ hs) =
+      rw (greater-than h (f (q .term)) (g (q .term)), exceeds-either qs hs)
+      (shuffle (ltb h (f (q .term))) (ltb h (g (q .term))) (exceedsBy f qs hs) (exceedsBy g qs hs))
+    where
+      greater-than : (h x y : ℕ) → ltb h (max x y) ≡ (ltb h x || ltb h y)
+      greater-than h x y = by-bool (ltb h x)
+          (λ e. rw e (lt-ltb h (max x y) (omega (arith, ltb-true h x e))))
+          (λ e. rw e (by-bool (ltb h y)
+          (λ z. rw z (lt-ltb h (max x y) (omega (arith, ltb-true h y z))))
+          (λ z. rw z (le-ltb h (max x y) (omega (arith, ltb-false h x e, ltb-false h y z))))))
+
+      shuffle : (a b c d : Bool) → ((a || b) || (c || d)) ≡ ((a || c) || (b || d))
+      shuffle true b c d = refl
+      shuffle false true true d = refl
+      shuffle false true false d = refl
+      shuffle false false c d = refl
+
+module _ (f : ℕ → ℕ) (none : (t : ℕ) → f t ≡ 0) where
+  pub exceeds-none : (qs : List Pair) (hs : List ℕ) → exceedsBy f qs hs ≡ false
+  unfolding exceedsBy
+  exceeds-none [] hs = refl
+  exceeds-none (q ∷ qs) [] = refl
+  exceeds-none (q ∷ qs) (h ∷ hs) = rw (none (q .term), le-ltb h 0 (omega arith)) (exceeds-none qs hs)
 
 -- ---- a message that exceeds no threshold
 
@@ -153,28 +189,13 @@ scored-above q s ms =
     select-select (above s) scoring (λ x p. omega (arith, ltb-true, lt-ltb)) (map (entry (score (q .terms))) ms)
     ∙ select-map (entry (score (q .terms))) (above s) ms
 
--- messages that score less than the last of a full list come and go without changing it
-pub outranked : (q : Query) {all gone stay : List Message} (come : List Message) → Split all gone stay → length (ranking q all) ≡ q .k
-    → 0 < lastScore (ranking q all) → ((m : Message) → In m gone → score (q .terms) (m .pairs) < lastScore (ranking q all))
-    → ((m : Message) → In m come → score (q .terms) (m .pairs) < lastScore (ranking q all)) → ranking q all ≡ ranking q (stay ++ come)
-outranked q {all} {gone} {stay} come split full positive low-gone low-come =
-    ranking-agrees q s all (stay ++ come)
-    (scored-above q s all
-    ∙ ap (map (entry (score (q .terms)))) (select-change (high q s) come split (none gone low-gone) (none come low-come))
-    ∙ sym (scored-above q s (stay ++ come)))
-    (inr (full, omega arith))
-  where
-    s : ℕ
-    s = lastScore (ranking q all) - 1
-
-    none : (ms : List Message) → ((m : Message) → In m ms → score (q .terms) (m .pairs) < lastScore (ranking q all)) → (m : Message) → In m ms → high q s m ≡ false
-    none ms low m i = le-ltb s (score (q .terms) (m .pairs)) (let l = low m i in omega arith)
-
 -- ---- candidates
 
-module _ (q : Query) (hs : List ℕ) (one-each : length hs ≡ length (q .terms)) (ms : List Message) where
+-- messages among which all candidates are
+module _ (q : Query) (hs : List ℕ) (one-each : length hs ≡ length (q .terms)) (test : Message → Bool)
+    (covers : (m : Message) → exceeds (q .terms) hs (m .pairs) ≡ true → test m ≡ true) (ms : List Message) where
   abbrev those : List Message
-  those = candidates (q .terms) hs ms
+  those = select test ms
 
   abbrev sum : ℕ
   sum = thresholdSum (q .terms) hs
@@ -184,10 +205,10 @@ module _ (q : Query) (hs : List ℕ) (one-each : length hs ≡ length (q .terms)
   candidates-above =
       scored-above q sum those
       ∙ ap (map (entry (score (q .terms))))
-      (select-select (high q sum) (λ m. exceeds (q .terms) hs (m .pairs)) (λ m p. above-exceeds (q .terms) hs (m .pairs) one-each (omega (arith, ltb-true))) ms)
+      (select-select (high q sum) test (λ m p. covers m (above-exceeds (q .terms) hs (m .pairs) one-each (omega (arith, ltb-true)))) ms)
       ∙ sym (scored-above q sum ms)
 
-  -- ranking the candidates is enough, where their list is safe ..
+  -- ranking them is enough, where their list is safe ..
   pub candidates-enough : Safe sum (q .k) (ranking q those) → ranking q those ≡ ranking q ms
   candidates-enough = ranking-agrees q sum those ms candidates-above
 
@@ -221,8 +242,10 @@ pub settled-same : (q : Query) (ms ms′ : List Message) (kept : Kept) → Settl
 settled-same q ms ms′ kept s c =
     let hs = kept .thresholds in
     let safe = settled-safe q ms kept s in
-    let same : ranking q ms ≡ ranking q (candidates (q .terms) hs ms′) = sym (candidates-keep q hs (s .one-each) ms safe) ∙ ap (ranking q) c in
-    let e : ranking q ms ≡ ranking q ms′ = same ∙ candidates-enough q hs (s .one-each) ms′ (subst (Safe (thresholdSum (q .terms) hs) (q .k)) same safe) in
+    let exceeding : Message → Bool = λ m. exceeds (q .terms) hs (m .pairs) in
+    let same : ranking q ms ≡ ranking q (candidates (q .terms) hs ms′) = sym (candidates-keep q hs (s .one-each) exceeding (λ m x. x) ms safe) ∙ ap (ranking q) c in
+    let safe′ = subst (Safe (thresholdSum (q .terms) hs) (q .k)) same safe in
+    let e : ranking q ms ≡ ranking q ms′ = same ∙ candidates-enough q hs (s .one-each) exceeding (λ m x. x) ms′ safe′ in
     settled-again q ms ms′ kept (kept .candidates) s e (s .above ∙ ap serials c)
 
 unreached : (qs : List Pair) (hs : List ℕ) (ms : List Message) → reached qs hs ms ≡ false → (m : Message) → In m ms → exceeds qs hs (m .pairs) ≡ false

@@ -13,16 +13,11 @@ use Rattle.paper.specs.Sort.{select}
 use Rattle.paper.specs.Log.{postingLength}
 use Rattle.paper.specs.Sound.{Messages}
 use Rattle.paper.proofs.SortLaws.{inserts-map, length-sort}
-use Rattle.impact.proofs.CellLaws.{lookup-cells, rising-cells}
+use Rattle.impact.proofs.CellLaws.{lookup-cells}
 use Rattle.rank.specs.Listing.{aheadLine}
 use Rattle.window.specs.Slot.{Slot, stored}
 use Rattle.posting.specs.Lines.{lineBytes}
-use Rattle.posting.specs.Posting.{having, posting, AllRising, Counted, Filled}
-
-pub rising-stored : (ms : List Message) → Messages ms → AllRising (map stored ms)
-unfolding stored
-rising-stored [] v = tt
-rising-stored (m ∷ ms) v = (rising-cells (m .pairs) (v .1), rising-stored ms (v .2))
+use Rattle.posting.specs.Posting.{having, posting, Counted, Filled}
 
 module _ (t : ℕ) where
   pub having-stored : (ms : List Message) → Messages ms → having t (map stored ms) ≡ lines (entries (λ ps. impactIn ps t) ms)
@@ -44,9 +39,6 @@ module _ (t : ℕ) where
 
   -- what each reader says of a window that holds messages
   module _ {xs : List Slot} (ms : List Message) (v : Messages ms) (e : xs ≡ map stored ms) where
-    rising : AllRising xs
-    rising = rw e (rising-stored ms v)
-
     sorted : posting t xs ≡ lines (postings t ms)
     sorted = rw e (posting-stored ms v)
 
@@ -54,10 +46,8 @@ module _ (t : ℕ) where
     number = sym (length-sort aheadLine (having t xs)) ∙ ap length sorted
 
     pub counted-postings : {n r : ℕ} → Counted t n xs r → r ≡ length (lines (postings t ms))
-    counted-postings c = c .right rising ∙ number
+    counted-postings c = c .right ∙ number
 
     pub filled-postings : {n : ℕ} {out out′ : List ℕ} → Filled t n xs out out′ → postingLength * length (lines (postings t ms)) ≤ length out
         → out′ ≡ lineBytes (lines (postings t ms)) ++ drop (postingLength * length (lines (postings t ms))) out
-    filled-postings c fits =
-        c .right rising (rw number fits)
-        ∙ rw (sorted, number) refl
+    filled-postings c fits = c .right (rw number fits) ∙ rw (sorted, number) refl

@@ -1,6 +1,6 @@
 -- Slots chosen from the window and the messages that they hold. Assumes nothing.
 use Prim.Native.Nat.{ℕ}
-use mathlib.Core.Path.{_≡_, refl, sym, ap, _∙_, subst}
+use mathlib.Core.Path.{_≡_, refl, sym, ap, _∙_}
 use mathlib.Core.Bool.{Bool, false, _||_}
 use mathlib.Core.Logic.{inl, inr, ⊎-elim}
 use mathlib.Core.List.{List, [], _∷_, _++_, map, map-map}
@@ -13,9 +13,9 @@ use Rattle.paper.specs.Threshold.{exceeds, reached, candidates}
 use Rattle.paper.specs.Sound.{Messages}
 use Rattle.paper.proofs.Tests.{by-bool, or-false}
 use Rattle.paper.proofs.SortLaws.{select-map}
-use Rattle.window.specs.Slot.{Slot, slot, stored, ring, window}
-use Rattle.candidates.specs.Match.{exceedsCells, reachedSlots, AllRising}
-use Rattle.candidates.proofs.MatchLaws.{exceeds-stored, all-rising, reached-stored, select-agree, taken-slots}
+use Rattle.window.specs.Slot.{Slot, slot, stored, ring}
+use Rattle.candidates.specs.Match.{exceedsCells, reachedSlots}
+use Rattle.candidates.proofs.MatchLaws.{exceeds-stored, reached-stored, select-agree, taken-slots}
 use Rattle.query.specs.Post.{Over}
 
 -- ---- messages within their ranges
@@ -35,15 +35,8 @@ messages-select test (m ∷ ms) v =
 -- ---- slots that exceed a threshold
 
 module _ (w js : List ℕ) (ms : List Message) (valid : Messages ms) (shows : map (slot w) js ≡ map stored ms) where
-  -- the cells of slots that hold messages rise
-  pub slots-rise : AllRising (map (slot w) js)
-  slots-rise = subst AllRising (sym shows) (all-rising ms valid)
-
   pub slots-reached : (qs : List Pair) (hs : List ℕ) → reachedSlots qs hs (map (slot w) js) ≡ reached qs hs ms
   slots-reached qs hs = ap (reachedSlots qs hs) shows ∙ reached-stored qs hs ms valid
-
-pub over-rising : {w : List ℕ} {o n : ℕ} {ms : List Message} → Over w o n ms → AllRising (window w o n)
-over-rising {w} {o} {n} {ms} over = slots-rise w (ring o n) ms (over .valid) (over .shows)
 
 module _ (w : List ℕ) (o n : ℕ) (ms : List Message) (over : Over w o n ms) (qs : List Pair) (hs : List ℕ) where
   -- the slots chosen because they exceed a threshold hold the candidates

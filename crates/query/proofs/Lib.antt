@@ -3,9 +3,11 @@ pub mod ChosenLaws
 pub mod LiftLaws
 pub mod KeptLaws
 pub mod SettleLaws
+pub mod TouchLaws
+pub mod MoveLaws
+pub mod PlaceLaws
+pub mod ChangeLaws
 pub mod UpdateLaws
-pub mod StandLaws
-pub mod MovedLaws
 pub mod FillLaws
 pub mod QueryLaws
 pub mod StoreLaws

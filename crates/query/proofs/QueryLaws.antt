@@ -4,8 +4,8 @@ use native.Mathlib.Nat.{not-suc-le-zero}
 use native.Mathlib.Omega.{arith}
 use mathlib.Core.Path.{_≡_, refl, sym, _∙_}
 use mathlib.Core.Bool.{Bool, true, false}
-use mathlib.Core.List.{List, [], _∷_, map}
-use lib.ListN.{length, getD, take, drop, length-take, length-drop, List·getD-eq-default, List·getD-map}
+use mathlib.Core.List.{List, [], _∷_}
+use lib.ListN.{length, getD, take, drop, length-take, length-drop, List·getD-eq-default}
 use lib.Seq.{getD-take, getD-drop, ext-getD}
 use lib.Dec.{ltb}
 use borrow.Author.Tests.{ltb-true, ltb-false}
@@ -48,11 +48,6 @@ unfolding termAt
 term-range [] a i h = absurd (not-suc-le-zero h)
 term-range (q ∷ qs) a zero h = a .0
 term-range (q ∷ qs) a (suc i) h = term-range qs (a .2) i (omega arith)
-
--- the place of a query's term among its terms
-pub term-at : (qs : List Pair) (i : ℕ) → getD (map (λ p. p .term) qs) i 0 ≡ termAt qs i
-unfolding termAt
-term-at qs i = List·getD-map (λ (p : Pair). p .term) qs i (record { term = 0; amount = 0 })
 
 -- two arrays that start with these terms and weights
 side-is : (qs : List Pair) (ts us : List ℕ) → length qs ≤ length ts → length qs ≤ length us
@@ -103,6 +98,7 @@ module _ (w : List ℕ) (q : ℕ) (r : Query) (k : Clamped 0 mostListed (getD w 
           n = e;
           terms = pairs;
           rising = rising-side {w = weightWidth} {most = mostTerms} (r .n) (r .terms) (r .weights) (omega (arith, ts .wide)) (omega (arith, us .wide)) (rw pairs (v .terms));
+          known = λ i h. let l : i < length (query .terms) = omega arith in omega (arith, pair-is i l .0, term-range (query .terms) (v .terms .fit) i l);
         }
 
   pub loaded-query : LoadedQuery w q r
@@ -138,4 +134,9 @@ module _ {w : List ℕ} {q : ℕ} {query : Rank.Query} (terms : Terms query) (sa
   term-said i h =
       let u = weight-range (query .terms) (terms .terms .fit) (terms .terms .above-zero) i h in
       let t = term-range (query .terms) (terms .terms .fit) i h in
+      omega (arith, says .pairs i (omega (arith, terms .terms .at-most)))
+
+  pub weight-said : (i : ℕ) → i < length (query .terms) → getD w (pairsIn q + i) 0 % 16 ≡ weightAt (query .terms) i
+  weight-said i h =
+      let u = weight-range (query .terms) (terms .terms .fit) (terms .terms .above-zero) i h in
       omega (arith, says .pairs i (omega (arith, terms .terms .at-most)))

@@ -1,13 +1,13 @@
 -- What a record says depends on its own words and on the slots of the window; which are in use. Assumes nothing.
-use Prim.Native.Nat.{ℕ, _+_, _≤_, _<_}
+use Prim.Native.Nat.{ℕ, _+_, _-_, _≤_, _<_}
 use native.Mathlib.Nat.{add-zero}
 use native.Mathlib.Omega.{arith}
-use mathlib.Core.Path.{_≡_, refl, sym, ap, ap₂, _∙_}
+use mathlib.Core.Path.{_≡_, refl, sym, ap, ap₂, _∙_, subst}
 use mathlib.Core.Logic.{_⊎_, inl, inr, ⊎-elim}
 use mathlib.Core.Bool.{Bool, true, false, not, _&&_}
 use mathlib.Core.List.{List, [], _∷_, map}
 use mathlib.Core.Option.{Option, none, some}
-use lib.ListN.{length, getD, take, drop}
+use lib.ListN.{length, getD, take, drop, length-take, length-drop}
 use lib.Dec.{eqb}
 use borrow.Author.Tests.{eq-eqb, ne-eqb}
 use Rattle.paper.specs.Frame.{Pair, mostListed}
@@ -20,15 +20,15 @@ use Rattle.paper.specs.Window.{Message}
 use Rattle.paper.specs.Layout.{slots, recordAt, recordWords, sizeIn, pairsIn, listedIn, thresholdsIn, serialsIn, scoresIn, flagsIn, flagWords}
 use Rattle.paper.proofs.SortLaws.{select-in}
 use Rattle.memory.specs.Keeps.{Keeps}
-use Rattle.memory.proofs.KeepsLaws.{keeps-at, keeps-part}
+use Rattle.memory.proofs.KeepsLaws.{keeps-at, same-part}
 use Rattle.window.specs.Slot.{slot, ring}
 use Rattle.candidates.proofs.MatchLaws.{slot-in, in-ring}
 use Rattle.candidates.specs.Match.{exceedsCells}
 use Rattle.candidates.specs.Flags.{flagOf, inRing}
-use Rattle.query.specs.Record.{thresholds, flags, list, candidates, Says, Holds, HoldsAt}
+use Rattle.query.specs.Record.{thresholds, flags, list, candidates, Says, Holds, HoldsAt, SameRecord}
 
 -- functions that agree on a list's elements
-map-agree : {A B : Type 0} (f g : A → B) (l : List A) → ((x : A) → In x l → f x ≡ g x) → map f l ≡ map g l
+pub map-agree : {A B : Type 0} (f g : A → B) (l : List A) → ((x : A) → In x l → f x ≡ g x) → map f l ≡ map g l
 map-agree f g [] h = refl
 map-agree f g (x ∷ l) h = ap₂ _∷_ (h x (inl refl)) (map-agree f g l (λ y m. h y (inr m)))
 
@@ -43,70 +43,77 @@ cells-same w w′ qs hs o n j same = go (inRing o n j) same
 
 -- ---- words that are left alone
 
+-- the query stands before what is kept of it
+says-by : (w w′ : List ℕ) {q : ℕ} {query : Query} → ((i : ℕ) → recordAt q ≤ i → i < listedIn q → getD w′ i 0 ≡ getD w i 0) → Says w q query → Says w′ q query
+says-by w w′ {q} same s = record {
+  k = same (recordAt q) (omega arith) (omega arith) ∙ s .k;
+  size = same (sizeIn q) (omega arith) (omega arith) ∙ s .size;
+  pairs = λ i h. same (pairsIn q + i) (omega arith) (omega arith) ∙ s .pairs i h;
+}
+
 module _ {a e : ℕ} {w w′ : List ℕ} (kept : Keeps a e w w′) where
-  -- from lo up to, not including, hi
-  word-same : {lo hi : ℕ} → (hi ≤ a) ⊎ (e ≤ lo) → (i : ℕ) → lo ≤ i → i < hi → getD w′ i 0 ≡ getD w i 0
-  word-same out i l h = keeps-at kept i (⊎-elim (λ d. inl (omega arith)) (λ d. inr (omega arith)) out)
-
-  part-same : {lo hi : ℕ} → (hi ≤ a) ⊎ (e ≤ lo) → (i n : ℕ) → lo ≤ i → i + n ≤ hi → take n (drop i w′) ≡ take n (drop i w)
-  part-same out i n l h = keeps-part kept i n (⊎-elim (λ d. inl (omega arith)) (λ d. inr (omega arith)) out)
-
-  -- the query stands before what is kept of it
   pub says-same : {q : ℕ} {query : Query} → (listedIn q ≤ a) ⊎ (e ≤ recordAt q) → Says w q query → Says w′ q query
-  says-same {q} {query} out s = record {
-    k = word-same out (recordAt q) (omega arith) (omega arith) ∙ s .k;
-    size = word-same out (sizeIn q) (omega arith) (omega arith) ∙ s .size;
-    pairs = λ i h. word-same out (pairsIn q + i) (omega arith) (omega arith) ∙ s .pairs i h;
-  }
+  says-same out = says-by w w′ (λ i l h. keeps-at kept i (⊎-elim (λ d. inl (omega arith)) (λ d. inr (omega arith)) out))
 
-  -- a whole record
-  module _ (q : ℕ) (out : (recordAt q + recordWords ≤ a) ⊎ (e ≤ recordAt q)) where
-    pub thresholds-same : (n : ℕ) → n ≤ 8 → thresholds w′ q n ≡ thresholds w q n
-    unfolding thresholds
-    thresholds-same n h = part-same out (thresholdsIn q) n (omega arith) (omega arith)
+  pub record-same : (q : ℕ) → (recordAt q + recordWords ≤ a) ⊎ (e ≤ recordAt q) → SameRecord w w′ q
+  record-same q out i h = keeps-at kept (recordAt q + i) (⊎-elim (λ d. inl (omega arith)) (λ d. inr (omega arith)) out)
 
-    pub flags-same : flags w′ q ≡ flags w q
-    unfolding flags
-    flags-same = part-same out (flagsIn q) flagWords (omega arith) (omega arith)
+-- a whole record, word for word the same
+module _ (w w′ : List ℕ) (q : ℕ) (long : length w′ ≡ length w) (record-is : SameRecord w w′ q) where
+  word-same : (i : ℕ) → recordAt q ≤ i → i < recordAt q + recordWords → getD w′ i 0 ≡ getD w i 0
+  word-same i l h =
+      let e : recordAt q + (i - recordAt q) ≡ i = omega arith in
+      subst (λ (j : ℕ). getD w′ j 0 ≡ getD w j 0) e (record-is (i - recordAt q) (omega arith))
 
-    size-same : getD w′ (listedIn q) 0 ≡ getD w (listedIn q) 0
-    size-same = word-same out (listedIn q) (omega arith) (omega arith)
+  part-same : (i n : ℕ) → recordAt q ≤ i → i + n ≤ recordAt q + recordWords → take n (drop i w′) ≡ take n (drop i w)
+  part-same i n l h = same-part w′ w i n (simp (length-take, length-drop) (omega arith)) (λ j x y. word-same j (omega arith) (omega arith))
 
-    serials-same : take mostListed (drop (serialsIn q) w′) ≡ take mostListed (drop (serialsIn q) w)
-    serials-same = part-same out (serialsIn q) mostListed (omega arith) (omega arith)
+  pub thresholds-same : (n : ℕ) → n ≤ 8 → thresholds w′ q n ≡ thresholds w q n
+  unfolding thresholds
+  thresholds-same n h = part-same (thresholdsIn q) n (omega arith) (omega arith)
 
-    scores-same : take mostListed (drop (scoresIn q) w′) ≡ take mostListed (drop (scoresIn q) w)
-    scores-same = part-same out (scoresIn q) mostListed (omega arith) (omega arith)
+  pub flags-same : flags w′ q ≡ flags w q
+  unfolding flags
+  flags-same = part-same (flagsIn q) flagWords (omega arith) (omega arith)
 
-    pub list-same : list w′ q ≡ list w q
-    unfolding list
-    list-same = rw (size-same, serials-same, scores-same)
+  size-same : getD w′ (listedIn q) 0 ≡ getD w (listedIn q) 0
+  size-same = word-same (listedIn q) (omega arith) (omega arith)
 
-    module _ (o n : ℕ) (first : o < slots) (same : (j : ℕ) → j < slots → inRing o n j ≡ true → slot w′ j ≡ slot w j) where
-      pub candidates-same : candidates w′ q o n ≡ candidates w q o n
-      unfolding candidates
-      candidates-same =
-          rw flags-same
-          (map-agree (λ j. slot w′ j .serial) (λ j. slot w j .serial) (select (flagOf (flags w q)) (ring o n))
-          (λ j m. let r = in-ring o n j first (select-in (flagOf (flags w q)) j (ring o n) m .0) in ap (λ x. x .serial) (same j (r .0) (r .1))))
+  serials-same : take mostListed (drop (serialsIn q) w′) ≡ take mostListed (drop (serialsIn q) w)
+  serials-same = part-same (serialsIn q) mostListed (omega arith) (omega arith)
 
-      holds-same : {ms : List Message} {query : Query} → Terms query → Holds w q o n ms query → Holds w′ q o n ms query
-      holds-same {ms} {query} t h =
-          let m = t .terms .at-most in
-          let hs = thresholds-same (length (query .terms)) (omega arith) in
-          record {
-            says = says-same (⊎-elim (λ d. inl (omega arith)) inr out) (h .says);
-            settled = rw (hs, candidates-same, list-same) (h .settled);
-            flagged = λ j. rw (flags-same, hs) (h .flagged j ∙ cells-same w w′ (query .terms) (thresholds w q (length (query .terms))) o n j (λ e. same j (slot-in o n j e) e));
-            no-threshold = λ i l k. word-same out (thresholdsIn q + i) (omega arith) (omega arith) ∙ h .no-threshold i l k;
-            listed-most = rw size-same (h .listed-most);
-            no-serial = rw (size-same, serials-same) (h .no-serial);
-            no-score = rw (size-same, scores-same) (h .no-score);
-          }
+  scores-same : take mostListed (drop (scoresIn q) w′) ≡ take mostListed (drop (scoresIn q) w)
+  scores-same = part-same (scoresIn q) mostListed (omega arith) (omega arith)
 
-      pub holds-at-same : (ms : Query → List Message) (x : Option Query) → ((query : Query) → x ≡ some query → Terms query) → HoldsAt w q o n ms x → HoldsAt w′ q o n ms x
-      holds-at-same ms none t h = λ i l. word-same out (recordAt q + i) (omega arith) (omega arith) ∙ h i l
-      holds-at-same ms (some query) t h = holds-same (t query refl) h
+  pub list-same : list w′ q ≡ list w q
+  unfolding list
+  list-same = rw (size-same, serials-same, scores-same)
+
+  module _ (o n : ℕ) (first : o < slots) (same : (j : ℕ) → j < slots → inRing o n j ≡ true → slot w′ j ≡ slot w j) where
+    pub candidates-same : candidates w′ q o n ≡ candidates w q o n
+    unfolding candidates
+    candidates-same =
+        rw flags-same
+        (map-agree (λ j. slot w′ j .serial) (λ j. slot w j .serial) (select (flagOf (flags w q)) (ring o n))
+        (λ j m. let r = in-ring o n j first (select-in (flagOf (flags w q)) j (ring o n) m .0) in ap (λ x. x .serial) (same j (r .0) (r .1))))
+
+    holds-same : {ms : List Message} {query : Query} → Terms query → Holds w q o n ms query → Holds w′ q o n ms query
+    holds-same {ms} {query} t h =
+        let m = t .terms .at-most in
+        let hs = thresholds-same (length (query .terms)) (omega arith) in
+        record {
+          says = says-by w w′ (λ i l k. word-same i l (omega arith)) (h .says);
+          settled = rw (hs, candidates-same, list-same) (h .settled);
+          flagged = λ j. rw (flags-same, hs) (h .flagged j ∙ cells-same w w′ (query .terms) (thresholds w q (length (query .terms))) o n j (λ e. same j (slot-in o n j e) e));
+          no-threshold = λ i l k. word-same (thresholdsIn q + i) (omega arith) (omega arith) ∙ h .no-threshold i l k;
+          listed-most = rw size-same (h .listed-most);
+          no-serial = rw (size-same, serials-same) (h .no-serial);
+          no-score = rw (size-same, scores-same) (h .no-score);
+        }
+
+    pub holds-at-same : (ms : Query → List Message) (x : Option Query) → ((query : Query) → x ≡ some query → Terms query) → HoldsAt w q o n ms x → HoldsAt w′ q o n ms x
+    holds-at-same ms none t h = λ i l. record-is i l ∙ h i l
+    holds-at-same ms (some query) t h = holds-same (t query refl) h
 
 -- ---- which are in use
 

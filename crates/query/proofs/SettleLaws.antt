@@ -1,16 +1,16 @@
 -- When what is kept of a query is right: the thresholds that settling ends with, the flags and list beside them, and where they come from.
 -- Assumes nothing.
-use Prim.Native.Nat.{ℕ, zero, suc, _≤_, _<_, suc-le-suc}
-use native.Mathlib.Nat.{mul-le-mul-right, eq-or-lt-of-le, not-suc-le-zero, le-of-suc-le-suc}
+use Prim.Native.Nat.{ℕ, zero, suc, _*_, _/_, _%_, _≤_, _<_, suc-le-suc}
+use native.Mathlib.Nat.{mul-zero, mul-le-mul-right, eq-or-lt-of-le, not-suc-le-zero, le-of-suc-le-suc}
 use native.Mathlib.Omega.{arith}
 use mathlib.Core.Path.{_≡_, refl, sym, ap, ap₂, _∙_, subst}
 use mathlib.Core.Bool.{Bool, true, false, _&&_, _||_, false≢true}
 use mathlib.Core.Logic.{_⊎_, inl, inr, ⊎-elim}
 use mathlib.Core.List.{List, [], _∷_, map, map-map}
-use lib.ListN.{length, getD, take, replicate, length-map, length-take, List·getD-eq-default}
-use lib.Seq.{getD-take, length-take-le}
-use lib.Dec.{ltb}
-use borrow.Author.Tests.{ltb-true, ltb-false, lt-ltb}
+use lib.ListN.{length, getD, take, replicate, getD-replicate, length-map, length-take, List·getD-eq-default}
+use lib.Seq.{getD-take, length-take-le, ext-getD}
+use lib.Dec.{eqb, ltb}
+use borrow.Author.Tests.{eqb-true, ltb-true, ltb-false, lt-ltb}
 use Rattle.paper.specs.Frame.{Pair, mostListed}
 use Rattle.paper.specs.Impact.{top, score}
 use Rattle.paper.specs.Order.{In, entryAt}
@@ -24,7 +24,10 @@ use Rattle.paper.specs.Threshold.{exceeds, exceedsBy, thresholdSum, lastScore, 
 use Rattle.paper.specs.Threshold as Threshold
 use Rattle.paper.specs.Layout.{slots}
 use Rattle.paper.proofs.RankLaws.{ranking-right, ranking-length}
-use Rattle.paper.proofs.ThresholdLaws.{sum-zero, Safe, candidates-enough}
+use Rattle.paper.proofs.Tests.{and-true, by-bool}
+use Rattle.paper.proofs.SortLaws.{select-all, select-in, in-select}
+use Rattle.paper.proofs.ThresholdLaws.{Safe, candidates-enough}
+use Rattle.wire.specs.Bits.{odd, bits}
 use Rattle.impact.specs.Cell.{lookup}
 use Rattle.rank.specs.declared.Ranked.{Ranked}
 use Rattle.rank.specs.Listing.{linesOf, lastOf}
@@ -36,13 +39,14 @@ use Rattle.window.proofs.SlotLaws.{slot-kept}
 use Rattle.candidates.specs.declared.Query.{Query}
 use Rattle.candidates.specs.Match.{exceedsCells, scored}
 use Rattle.candidates.specs.Flags.{flagOf, inRing}
-use Rattle.candidates.specs.Post.{termsOf, lineIn, grows, RankedBy, Sifted, Flagging}
-use Rattle.candidates.proofs.FlagLaws.{zero-at}
-use Rattle.candidates.proofs.MatchLaws.{slot-in, in-ring, rising-ring, ranking-stored}
+use Rattle.candidates.specs.Post.{termsOf, lineIn, grows}
+use Rattle.candidates.specs.Rows.{Having, Rows, RankedRows, SiftedRows}
+use Rattle.candidates.proofs.MatchLaws.{slot-in, in-ring, ring-in, ranking-stored}
+use Rattle.candidates.proofs.RowLaws.{having-grows, having-exceeds}
 use Rattle.query.specs.Record.{thresholds, flags, candidates, keptOf, Says, Holds}
-use Rattle.query.specs.Post.{InRange, Is, sumOf, Lifted, secure, StoredKept, Over, Ready}
-use Rattle.query.proofs.ChosenLaws.{messages-select, over-rising, chosen, serials-of}
-use Rattle.query.proofs.LiftLaws.{secure-zero, secure-safe}
+use Rattle.query.specs.Post.{InRange, Is, sumOf, Lifted, secure, sameFrom, StoredKept, Over, Shown, Ready, Exact}
+use Rattle.query.proofs.ChosenLaws.{messages-select, chosen, serials-of}
+use Rattle.query.proofs.LiftLaws.{secure-safe}
 use Rattle.query.proofs.RecordLaws.{cells-same, says-same}
 use Rattle.query.proofs.KeptLaws.{over-kept, thresholds-stored, threshold-stored, flags-stored, list-stored}
 
@@ -169,34 +173,33 @@ module _ {w : List ℕ} {q o n : ℕ} {ms : List Message} {query : Rank.Query} {
             short = λ z. zeros;
           }
 
+-- arrays found the same are
+same-eight : (n : ℕ) (xs ys : List ℕ) → sameFrom n xs ys ≡ true → (i : ℕ) → i < n → getD xs i 0 ≡ getD ys i 0
+unfolding sameFrom
+same-eight zero xs ys e i h = absurd (not-suc-le-zero h)
+same-eight (suc n) xs ys e i h =
+    let p = and-true (sameFrom n xs ys) (eqb (getD xs n 0) (getD ys n 0)) e in
+    ⊎-elim
+    (λ z. rw z (eqb-true (getD xs n 0) (getD ys n 0) (p .1)))
+    (λ l. same-eight n xs ys (p .0) i l)
+    (eq-or-lt-of-le (le-of-suc-le-suc h))
+
+pub same-arrays : (xs ys : List ℕ) → length xs ≡ 8 → length ys ≡ 8 → sameFrom 8 xs ys ≡ true → xs ≡ ys
+same-arrays xs ys lx ly e = ext-getD 0 xs ys (lx ∙ sym ly) (λ i h. same-eight 8 xs ys e i (omega arith))
+
 -- ---- what is stored at the end
 
--- a middle test that the other two imply
-and-drop : (a b c : Bool) → (a ≡ true → c ≡ true → b ≡ true) → (a && b && c) ≡ (a && c)
-and-drop true true c h = refl
-and-drop true false false h = refl
-and-drop true false true h = absurd (false≢true (h refl refl))
-and-drop false b c h = refl
-
-module _ {w : List ℕ} {q o n : ℕ} {fs : List ℕ} {r : Query} {hs hs′ : List ℕ} {l : Ranked} {kept-fs w′ : List ℕ} (ho : o < slots) (range : InRange r)
-    (long : Sixteen l) (eight : length hs ≡ 8) (eight′ : length hs′ ≡ 8) (lifted : Lifted r hs l hs′) (sifted : Sifted w o n fs r hs′ kept-fs)
-    (kept : StoredKept q hs′ l kept-fs w w′) (ms : List Message) (query : Rank.Query) (ready : Ready w q o n ms query fs r hs l) where
+module _ {w : List ℕ} {q o n : ℕ} {fs : List ℕ} {r : Query} {hs hs′ : List ℕ} {l : Ranked} (range : InRange r) (long : Sixteen l) (eight : length hs ≡ 8)
+    (eight′ : length hs′ ≡ 8) (lifted : Lifted r hs l hs′) {ms : List Message} {query : Rank.Query} (ready : Ready w q o n ms query fs r hs l) where
   settled-by : Next query ms (r .n) hs hs′
   settled-by = next ready long lifted
 
   most : r .n ≤ 8
   most = range .n-most
 
-  over′ : Over w′ o n ms
-  over′ = over-kept (kept .keeps) (omega arith) o n ho (ready .over)
-
-  -- the first thresholds stored
-  first-ones : thresholds w′ q (length (query .terms)) ≡ take (r .n) hs′
-  first-ones = thresholds-stored kept (length (query .terms)) (omega (arith, most, ready .is .n)) ∙ ap (λ (m : ℕ). take m hs′) (sym (ready .is .n))
-
   -- whoever exceeds one of the higher thresholds is flagged
-  taken : (j : ℕ) → j < slots → inRing o n j ≡ true → exceedsCells (query .terms) (take (r .n) hs′) (slot w j .cells) ≡ true → flagOf fs j ≡ true
-  taken j h i e =
+  pub still-taken : (j : ℕ) → j < slots → inRing o n j ≡ true → exceedsCells (query .terms) (take (r .n) hs′) (slot w j .cells) ≡ true → flagOf fs j ≡ true
+  still-taken j h i e =
       ready .taken j h i
       (exceeds-lower (query .terms) (take (r .n) hs) (take (r .n) hs′) (slot w j .cells) (simp length-take (omega (arith, most))) higher e)
     where
@@ -207,43 +210,87 @@ module _ {w : List ℕ} {q o n : ℕ} {fs : List ℕ} {r : Query} {hs hs′ : Li
           (λ a. omega arith)
           (cut (r .n) hs i)
 
-  flagged : (j : ℕ)
-      → flagOf (flags w′ q) j ≡ (inRing o n j && exceedsCells (query .terms) (thresholds w′ q (length (query .terms))) (slot w′ j .cells))
-  flagged j =
-      ap (λ (xs : List ℕ). flagOf xs j) (flags-stored kept)
-      ∙ sifted .right (rising-ring w o n ho (over-rising (ready .over))) (ready .is .rising) j
-      ∙ ap (λ (qs : List Pair). inRing o n j && flagOf fs j && exceedsCells qs (take (r .n) hs′) (slot w j .cells)) (ready .is .terms)
-      ∙ and-drop (inRing o n j) (flagOf fs j) (exceedsCells (query .terms) (take (r .n) hs′) (slot w j .cells)) (λ i. taken j (slot-in o n j i) i)
-      ∙ rw first-ones (cells-same w w′ (query .terms) (take (r .n) hs′) o n j (λ i. let h = slot-in o n j i in slot-kept (kept .keeps) j (inl (omega arith))))
+  -- beside the flags of those thresholds
+  module _ {kept-fs w′ : List ℕ} (ho : o < slots) (exact : Exact w o n kept-fs (query .terms) (take (r .n) hs′)) (kept : StoredKept q hs′ l kept-fs w w′) where
+    over′ : Over w′ o n ms
+    over′ = over-kept (kept .keeps) (omega arith) o n ho (ready .over)
 
-  above : candidates w′ q o n ≡ serials (Threshold.candidates (query .terms) (thresholds w′ q (length (query .terms))) ms)
-  unfolding candidates
-  above =
-      serials-of w′ (select (flagOf (flags w′ q)) (ring o n)) (Threshold.candidates (query .terms) (thresholds w′ q (length (query .terms))) ms)
-      (chosen w′ o n ms over′ (query .terms) (thresholds w′ q (length (query .terms))) (flagOf (flags w′ q))
-      (λ j m. let i = in-ring o n j ho m in
-      flagged j ∙ ap (λ (b : Bool). b && exceedsCells (query .terms) (thresholds w′ q (length (query .terms))) (slot w′ j .cells)) (i .1)))
+    -- the first thresholds stored
+    first-ones : thresholds w′ q (length (query .terms)) ≡ take (r .n) hs′
+    first-ones = thresholds-stored kept (length (query .terms)) (omega (arith, most, ready .is .n)) ∙ ap (λ (m : ℕ). take m hs′) (sym (ready .is .n))
 
-  settled : Settled query ms (keptOf w′ q o n (length (query .terms)))
-  settled = record {
-    one-each = ap length first-ones ∙ length-take-le (r .n) hs′ (omega (arith, most)) ∙ ready .is .n;
-    in-scale = λ i. rw first-ones (⊎-elim (λ a. omega (arith, settled-by .in-scale i (a .1))) (λ a. omega arith) (cut (r .n) hs′ i));
-    ranked = list-stored kept ∙ ready .ranked;
-    above = above;
-    full = λ e. rw first-ones (settled-by .full e);
-    short = λ h i. rw first-ones (⊎-elim (λ a. a .0 ∙ settled-by .short h i) (λ a. a .0) (cut (r .n) hs′ i));
-  }
+    flagged : (j : ℕ)
+        → flagOf (flags w′ q) j ≡ (inRing o n j && exceedsCells (query .terms) (thresholds w′ q (length (query .terms))) (slot w′ j .cells))
+    flagged j =
+        ap (λ (xs : List ℕ). flagOf xs j) (flags-stored kept)
+        ∙ exact j
+        ∙ rw first-ones (cells-same w w′ (query .terms) (take (r .n) hs′) o n j (λ i. let h = slot-in o n j i in slot-kept (kept .keeps) j (inl (omega arith))))
 
-  pub finished : Holds w′ q o n ms query
-  finished = record {
-    says = says-same (kept .keeps) (inl (omega arith)) (ready .says);
-    settled = settled;
-    flagged = flagged;
-    no-threshold = λ i h k. threshold-stored kept i k ∙ settled-by .unused i (omega (arith, ready .is .n));
-    listed-most = omega (arith, long .most, kept .count);
-    no-serial = rw (kept .count, kept .serials) (ready .tidy .serials);
-    no-score = rw (kept .count, kept .scores) (ready .tidy .scores);
-  }
+    above : candidates w′ q o n ≡ serials (Threshold.candidates (query .terms) (thresholds w′ q (length (query .terms))) ms)
+    unfolding candidates
+    above =
+        serials-of w′ (select (flagOf (flags w′ q)) (ring o n)) (Threshold.candidates (query .terms) (thresholds w′ q (length (query .terms))) ms)
+        (chosen w′ o n ms over′ (query .terms) (thresholds w′ q (length (query .terms))) (flagOf (flags w′ q))
+        (λ j m. let i = in-ring o n j ho m in
+        flagged j ∙ ap (λ (b : Bool). b && exceedsCells (query .terms) (thresholds w′ q (length (query .terms))) (slot w′ j .cells)) (i .1)))
+
+    settled : Settled query ms (keptOf w′ q o n (length (query .terms)))
+    settled = record {
+      one-each = ap length first-ones ∙ length-take-le (r .n) hs′ (omega (arith, most)) ∙ ready .is .n;
+      in-scale = λ i. rw first-ones (⊎-elim (λ a. omega (arith, settled-by .in-scale i (a .1))) (λ a. omega arith) (cut (r .n) hs′ i));
+      ranked = list-stored kept ∙ ready .ranked;
+      above = above;
+      full = λ e. rw first-ones (settled-by .full e);
+      short = λ h i. rw first-ones (⊎-elim (λ a. a .0 ∙ settled-by .short h i) (λ a. a .0) (cut (r .n) hs′ i));
+    }
+
+    pub finished : Holds w′ q o n ms query
+    finished = record {
+      says = says-same (kept .keeps) (inl (omega arith)) (ready .says);
+      settled = settled;
+      flagged = flagged;
+      no-threshold = λ i h k. threshold-stored kept i k ∙ settled-by .unused i (omega (arith, ready .is .n));
+      listed-most = omega (arith, long .most, kept .count);
+      no-serial = rw (kept .count, kept .serials) (ready .tidy .serials);
+      no-score = rw (kept .count, kept .scores) (ready .tidy .scores);
+    }
+
+-- the same of the slots by another name
+pub having-of : {w : List ℕ} {r : Query} {js js′ xs : List ℕ} → js ≡ xs → Having w r js js′ → Having w r xs js′
+having-of {w} {r} {js} {js′} e h = subst (λ (ys : List ℕ). Having w r ys js′) e h
+
+-- of the messages looked at, which are those flagged that have one of the terms, those that exceed them
+module _ {w : List ℕ} {q o n : ℕ} {fs : List ℕ} {r : Query} {hs hs′ : List ℕ} {l : Ranked} (range : InRange r) (long : Sixteen l) (eight : length hs ≡ 8)
+    (eight′ : length hs′ ≡ 8) (lifted : Lifted r hs l hs′) {ms : List Message} {query : Rank.Query} (ready : Ready w q o n ms query fs r hs l)
+    (ho : o < slots) {js rows kept-fs : List ℕ} (picked : Having w r (select (flagOf fs) (ring o n)) js) (looked : Rows w js r rows) (sifted : SiftedRows js r rows hs′ kept-fs) where
+  pub sifted-exact : Exact w o n kept-fs (query .terms) (take (r .n) hs′)
+  sifted-exact j = go (inRing o n j) (flagOf fs j) refl refl
+    where
+      -- whoever was looked at passed the test, is in the window, and flagged
+      among : In j js → (picked .test j ≡ true) × (inRing o n j ≡ true) × (flagOf fs j ≡ true)
+      among m =
+          let t = select-in (picked .test) j (select (flagOf fs) (ring o n)) (subst (In j) (picked .kept) m) in
+          let p = select-in (flagOf fs) j (ring o n) (t .0) in
+          (t .1, in-ring o n j ho (p .0) .1, p .1)
+
+      -- one that is flagged: whoever failed the test has none of the terms
+      tested : (b : Bool) → picked .test j ≡ b → inRing o n j ≡ true → flagOf fs j ≡ true → flagOf kept-fs j ≡ exceedsCells (termsOf r) (take (r .n) hs′) (slot w j .cells)
+      tested true e i t =
+          sifted .right w looked (ready .is .rising) (ready .is .known) j
+          (subst (In j) (sym (picked .kept))
+          (in-select (picked .test) j (select (flagOf fs) (ring o n)) (in-select (flagOf fs) j (ring o n) (ring-in o n j ho (slot-in o n j i) i) t) e))
+      tested false e i t =
+          sifted .others j (λ m. false≢true (sym e ∙ among m .0)) ∙ sym (having-exceeds picked (ready .is .rising) (ready .is .known) (take (r .n) hs′) j e)
+
+      go : (b f : Bool) → inRing o n j ≡ b → flagOf fs j ≡ f → flagOf kept-fs j ≡ (b && exceedsCells (query .terms) (take (r .n) hs′) (slot w j .cells))
+      go true true i t =
+          tested (picked .test j) refl i t ∙ ap (λ (qs : List Pair). exceedsCells qs (take (r .n) hs′) (slot w j .cells)) (ready .is .terms)
+      go true false i t =
+          sifted .others j (λ m. false≢true (sym t ∙ among m .2))
+          ∙ by-bool (exceedsCells (query .terms) (take (r .n) hs′) (slot w j .cells))
+          (λ e. absurd (false≢true (sym t ∙ still-taken range long eight eight′ lifted ready j (slot-in o n j i) i e)))
+          (λ e. sym e)
+      go false f i t = sifted .others j (λ m. false≢true (sym i ∙ among m .1))
 
 -- ---- a ranking's last score
 
@@ -271,71 +318,96 @@ listed-is {r} {query} w js ms is e v =
     ∙ ap (grows (query .k) []) (sym (map-map (scored (query .terms)) (slot w) js) ∙ ap (map (scored (query .terms))) e)
     ∙ ranking-stored query ms v
 
-module _ {w : List ℕ} {q o n : ℕ} {fs : List ℕ} {r : Query} {l : Ranked} (ho : o < slots) (by : RankedBy w o n fs r l)
-    (ms : List Message) (query : Rank.Query) (over : Over w o n ms) (terms : Terms query) (says : Says w q query) (is : Is r query) where
-  module _ (hs : List ℕ) (eight : length hs ≡ 8) (range : InRange r) (long : Sixteen l) (unused : (i : ℕ) → r .n ≤ i → getD hs i 0 ≡ 0)
-      (exact : (j : ℕ) → j < slots → inRing o n j ≡ true → flagOf fs j ≡ exceedsCells (query .terms) (take (r .n) hs) (slot w j .cells))
-      (sure : secure r hs l ≡ true) where
-    abbrev those : List Message
-    those = Threshold.candidates (query .terms) (take (r .n) hs) ms
+module _ {w : List ℕ} {q o n : ℕ} {fs : List ℕ} {r : Query} {l : Ranked} {js rows : List ℕ} (hs : List ℕ) (picked : Having w r (select (flagOf fs) (ring o n)) js) (looked : Rows w js r rows)
+    (by : RankedRows w js r rows l) (eight : length hs ≡ 8) (range : InRange r) (long : Sixteen l) (sure : secure r hs l ≡ true)
+    {ms : List Message} {query : Rank.Query} (over : Over w o n ms) (terms : Terms query) (says : Says w q query) (is : Is r query)
+    (unused : (i : ℕ) → r .n ≤ i → getD hs i 0 ≡ 0) (shown : Shown w o n fs ms (query .terms) (take (r .n) hs))
+    (taken : (j : ℕ) → j < slots → inRing o n j ≡ true → exceedsCells (query .terms) (take (r .n) hs) (slot w j .cells) ≡ true → flagOf fs j ≡ true) where
+  abbrev those : List Message
+  those = select (shown .test) ms
 
-    abbrev sum : ℕ
-    sum = thresholdSum (query .terms) (take (r .n) hs)
+  abbrev sum : ℕ
+  sum = thresholdSum (query .terms) (take (r .n) hs)
 
-    listed-those : linesOf l ≡ lines (ranking query those)
-    listed-those =
-        by .right (over-rising over) (is .rising)
-        ∙ listed-is w (select (flagOf fs) (ring o n)) those is
-        (chosen w o n ms over (query .terms) (take (r .n) hs) (flagOf fs) (λ j m. let i = in-ring o n j ho m in exact j (i .0) (i .1)))
-        (messages-select (λ m. exceeds (query .terms) (take (r .n) hs) (m .pairs)) ms (over .valid))
+  listed-those : linesOf l ≡ lines (ranking query those)
+  listed-those =
+      by .right looked (is .rising) (is .known)
+      ∙ having-grows picked (is .rising) (is .known) (r .k)
+      ∙ listed-is w (select (flagOf fs) (ring o n)) those is (shown .shows) (messages-select (shown .test) ms (over .valid))
 
-    safe-those : Safe sum (query .k) (ranking query those)
-    safe-those =
-        let c = count-is (ranking query those) long listed-those in
-        let m = ranking-length query those in
-        ⊎-elim
-        (λ z. inl (sym (sum-is is hs) ∙ z))
-        (λ p. inr (omega (arith, is .k), omega (arith, last-is (ranking query those) long listed-those, sum-is is hs)))
-        (secure-safe r hs l sure)
+  safe-those : Safe sum (query .k) (ranking query those)
+  safe-those =
+      let c = count-is (ranking query those) long listed-those in
+      let m = ranking-length query those in
+      ⊎-elim
+      (λ z. inl (sym (sum-is is hs) ∙ z))
+      (λ p. inr (omega (arith, is .k), omega (arith, last-is (ranking query those) long listed-those, sum-is is hs)))
+      (secure-safe r hs l sure)
 
-    same : ranking query those ≡ ranking query ms
-    same = candidates-enough query (take (r .n) hs) (length-take-le (r .n) hs (omega (arith, range .n-most)) ∙ is .n) ms safe-those
+  same : ranking query those ≡ ranking query ms
+  same =
+      candidates-enough query (take (r .n) hs) (length-take-le (r .n) hs (omega (arith, range .n-most)) ∙ is .n) (shown .test) (shown .covers) ms safe-those
 
-    safe-all : Safe sum (query .k) (ranking query ms)
-    safe-all = subst (Safe sum (query .k)) same safe-those
+  safe-all : Safe sum (query .k) (ranking query ms)
+  safe-all = subst (Safe sum (query .k)) same safe-those
 
-    -- the candidates, whose list is secure
-    pub ready-chosen : Ready w q o n ms query fs r hs l
-    ready-chosen = record {
-      over = over;
-      terms = terms;
-      says = says;
-      is = is;
-      ranked = listed-those ∙ ap lines same;
-      tidy = by .tidy;
-      unused = unused;
-      safe = λ e. ⊎-elim (λ z. omega (arith, last-positive query ms (omega (arith, terms .k-least)))) (λ p. p .1) safe-all;
-      short = λ h i. ⊎-elim (λ z. none (sum-is is hs ∙ z) i) (λ p. absurd (omega arith)) safe-all;
-      taken = λ j h i e. exact j h i ∙ e;
-    }
-      where
-        none : sumOf r hs ≡ 0 → (i : ℕ) → getD hs i 0 ≡ 0
-        none z i =
-            ⊎-elim
-            (λ h. sum-none (r .n) (r .weights) hs z (λ k m. range .weights-least k (omega (arith, range .n-most))) i h)
-            (λ h. unused i h)
-            (lt-or-ge i (r .n))
+  none : sumOf r hs ≡ 0 → (i : ℕ) → getD hs i 0 ≡ 0
+  none z i =
+      ⊎-elim
+      (λ h. sum-none (r .n) (r .weights) hs z (λ k m. range .weights-least k (omega (arith, range .n-most))) i h)
+      (λ h. unused i h)
+      (lt-or-ge i (r .n))
 
-  -- the whole window, from zero thresholds
-  pub ready-all : InRange r → Sixteen l → Flagging w o n r (replicate 8 0) fs → Ready w q o n ms query fs r (replicate 8 0) l
-  ready-all range long flagging =
-      ready-chosen (replicate 8 0) refl range long (λ i h. zero-at 8 i) exact (sym (secure-zero r (replicate 8 0) l (sum-is is (replicate 8 0) ∙ sum-zero (query .terms) (take (r .n) (replicate 8 0)) zero-in)))
-    where
-      zero-in : (i : ℕ) → _≡_ {A = ℕ} (getD (take (r .n) (replicate 8 0)) i 0) 0
-      zero-in i = ⊎-elim (λ a. a .0 ∙ zero-at 8 i) (λ a. a .0) (cut (r .n) (replicate 8 0) i)
+  -- the messages looked at, whose list is secure
+  pub ready-shown : Ready w q o n ms query fs r hs l
+  ready-shown = record {
+    over = over;
+    terms = terms;
+    says = says;
+    is = is;
+    ranked = listed-those ∙ ap lines same;
+    tidy = by .tidy;
+    unused = unused;
+    safe = λ e. ⊎-elim (λ z. omega (arith, last-positive query ms (omega (arith, terms .k-least)))) (λ p. p .1) safe-all;
+    short = λ h i. ⊎-elim (λ z. none (sum-is is hs ∙ z) i) (λ p. absurd (omega arith)) safe-all;
+    taken = taken;
+  }
 
-      exact : (j : ℕ) → j < slots → inRing o n j ≡ true → flagOf fs j ≡ exceedsCells (query .terms) (take (r .n) (replicate 8 0)) (slot w j .cells)
-      exact j h i =
-          flagging .right (rising-ring w o n ho (over-rising over)) (is .rising) j
-          ∙ ap (λ (b : Bool). b && exceedsCells (termsOf r) (take (r .n) (replicate 8 0)) (slot w j .cells)) i
-          ∙ ap (λ (qs : List Pair). exceedsCells qs (take (r .n) (replicate 8 0)) (slot w j .cells)) (is .terms)
+-- ---- what is flagged
+
+-- those that exceed a threshold
+pub shown-exact : {w : List ℕ} {o n : ℕ} {fs : List ℕ} {ms : List Message} {qs : List Pair} {hs : List ℕ} → o < slots → Over w o n ms
+    → ((j : ℕ) → j < slots → inRing o n j ≡ true → flagOf fs j ≡ exceedsCells qs hs (slot w j .cells)) → Shown w o n fs ms qs hs
+shown-exact {w} {o} {n} {fs} {ms} {qs} {hs} ho over exact = record {
+  test = λ m. exceeds qs hs (m .pairs);
+  covers = λ m e. e;
+  shows = chosen w o n ms over qs hs (flagOf fs) (λ j m. let i = in-ring o n j ho m in exact j (i .0) (i .1));
+}
+
+-- all of the window
+abbrev pub allFlags : List ℕ
+allFlags = replicate 9 4294967295
+
+pub all-flagged : (j : ℕ) → j < slots → flagOf allFlags j ≡ true
+unfolding flagOf bits odd
+all-flagged j h =
+    let ones : bits 32 4294967295 ≡ replicate 32 true = refl in
+    rw (getD-replicate {A = ℕ} 9 (j / 32) 4294967295 0 (omega arith), ones) (getD-replicate 32 (j % 32) true false (omega arith))
+
+pub shown-all : {w : List ℕ} {o n : ℕ} {ms : List Message} {qs : List Pair} {hs : List ℕ} → o < slots → Over w o n ms → Shown w o n allFlags ms qs hs
+shown-all {w} {o} {n} {ms} ho over = record {
+  test = λ m. true;
+  covers = λ m e. refl;
+  shows =
+      ap (map (slot w)) (select-all (flagOf allFlags) (ring o n) (λ j m. all-flagged j (in-ring o n j ho m .0)))
+      ∙ over .shows
+      ∙ sym (ap (map stored) (select-all (λ m. true) ms (λ m i. refl)));
+}
+
+-- the sum of thresholds of zero
+pub zero-sum : (n : ℕ) (ws hs : List ℕ) → ((i : ℕ) → getD hs i 0 ≡ 0) → weightedSum n ws hs ≡ 0
+unfolding weightedSum
+zero-sum zero ws hs z = refl
+zero-sum (suc n) [] hs z = refl
+zero-sum (suc n) (w ∷ ws) [] z = refl
+zero-sum (suc n) (w ∷ ws) (h ∷ hs) z = let ih = zero-sum n ws hs (λ i. z (suc i)) in omega (arith, ap (λ (v : ℕ). w * v) (z 0), mul-zero w)

@@ -1,30 +1,34 @@
 -- What each function over a record ensures. Assumes nothing.
-use Prim.Native.Nat.{ℕ, _+_, _*_, _≤_, _<_}
+use Prim.Native.Nat.{ℕ, zero, suc, _+_, _*_, _≤_, _<_}
 use mathlib.Core.Path.{_≡_}
 use mathlib.Core.Bool.{Bool, true, false, cond, _&&_, _||_}
 use mathlib.Core.List.{List, [], _∷_, _++_, map}
 use lib.ListN.{length, getD, take, drop}
 use lib.Dec.{eqb, leb, ltb}
 use Rattle.paper.specs.Frame.{mostTerms, mostListed, Pair}
-use Rattle.paper.specs.Impact.{top}
-use Rattle.paper.specs.Rank.{lines, ranking}
+use Rattle.paper.specs.Impact.{top, score}
+use Rattle.paper.specs.Rank.{Line, lines, ranking}
 use Rattle.paper.specs.Rank as Rank
 use Rattle.paper.specs.Window.{Message}
-use Rattle.paper.specs.Order.{Split}
-use Rattle.paper.specs.Threshold.{thresholdSum, lastScore, reached, termAt, weightAt}
+use Rattle.paper.specs.Order.{In, Split}
+use Rattle.paper.specs.Sort.{select}
+use Rattle.paper.specs.Threshold.{exceeds, thresholdSum, lastScore, reached, termAt, weightAt}
 use Rattle.paper.specs.Layout.{slots, recordAt, recordWords, thresholdsIn, serialsIn, scoresIn, flagsIn, listedIn, flagWords}
-use Rattle.paper.specs.Sound.{Messages, Terms}
+use Rattle.paper.specs.Sound.{Distinct, Messages, Terms}
 use Rattle.memory.specs.Keeps.{Keeps}
 use Rattle.impact.specs.Cell.{RisingTerms}
 use Rattle.rank.specs.declared.Ranked.{Ranked}
-use Rattle.rank.specs.Listing.{linesOf, lastOf, Tidy}
+use Rattle.rank.specs.Listing.{linesOf, lastOf, Tidy, grown, withouts}
 use Rattle.rank.specs.Weights.{weightLimit, weightedSum, Raised}
 use Rattle.window.specs.Slot.{slot, stored, ring, window}
-use Rattle.window.specs.Terms.{anyIn, slotTerms, SetOf}
+use Rattle.window.specs.Table.{TableOf}
 use Rattle.candidates.specs.declared.Query.{Query}
-use Rattle.candidates.specs.Match.{exceedsCells, reachedSlots, lowSlots, AllRising}
+use Rattle.candidates.specs.Match.{exceedsCells}
 use Rattle.candidates.specs.Flags.{flagOf, inRing}
-use Rattle.candidates.specs.Post.{termsOf, Rising, Without}
+use Rattle.candidates.specs.Post.{termsOf, Without}
+use Rattle.candidates.specs.Rows.{Known, Having, Rows}
+use Rattle.query.specs.declared.Move.{Move}
+use Rattle.query.specs.declared.Touch.{Touch}
 use Rattle.query.specs.Record.{thresholds, flags, list, Says, Holds}
 
 -- ---- reading
@@ -49,6 +53,7 @@ pub record Is (r : Query) (query : Rank.Query) : Type 0 where
   pub n : r .n ≡ length (query .terms)
   pub terms : termsOf r ≡ query .terms
   pub rising : RisingTerms (r .n) (r .terms)
+  pub known : Known r
 
 pub record LoadedQuery (w : List ℕ) (q : ℕ) (r : Query) : Type 0 where
   pub in-range : InRange r
@@ -82,6 +87,11 @@ pub record Lifted (r : Query) (hs : List ℕ) (list : Ranked) (hs′ : List ℕ)
 unfoldable pub secure : Query → List ℕ → Ranked → Bool
 secure r hs list = eqb (sumOf r hs) 0 || (leb (r .k) (list .count) && ltb (sumOf r hs) (lastOf (linesOf list)))
 
+-- whether the first n of two arrays are the same
+unfoldable pub sameFrom : ℕ → List ℕ → List ℕ → Bool
+sameFrom zero hs hs′ = true
+sameFrom (suc n) hs hs′ = sameFrom n hs hs′ && eqb (getD hs n 0) (getD hs′ n 0)
+
 -- ---- writing
 
 -- what is kept of the query is written, and nothing else
@@ -112,9 +122,42 @@ pub record Ready (w : List ℕ) (q first count : ℕ) (ms : List Message) (query
   pub short : length (ranking query ms) < query .k → (i : ℕ) → getD hs i 0 ≡ 0
   pub taken : (j : ℕ) → j < slots → inRing first count j ≡ true → exceedsCells (query .terms) (take (r .n) hs) (slot w j .cells) ≡ true → flagOf fs j ≡ true
 
-pub record Finished (w : List ℕ) (q first count : ℕ) (fs : List ℕ) (r : Query) (hs : List ℕ) (list : Ranked) (w′ : List ℕ) : Type 0 where
+-- the flagged slots of the window hold some of its messages, all that exceed a threshold among them
+pub record Shown (w : List ℕ) (first count : ℕ) (fs : List ℕ) (ms : List Message) (qs : List Pair) (hs : List ℕ) : Type 0 where
+  pub test : Message → Bool
+  pub covers : (m : Message) → exceeds qs hs (m .pairs) ≡ true → test m ≡ true
+  pub shows : map (slot w) (select (flagOf fs) (ring first count)) ≡ map stored (select test ms)
+
+-- the messages looked at are those flagged that have one of the query's terms
+pub record Finished (w : List ℕ) (q : ℕ) (js rows : List ℕ) (r : Query) (hs : List ℕ) (list : Ranked) (w′ : List ℕ) : Type 0 where
+  pub keeps : Keeps (listedIn q) (recordAt q + recordWords) w w′
+  pub right : (first count : ℕ) (fs : List ℕ) (ms : List Message) (query : Rank.Query) → first < slots → Having w r (select (flagOf fs) (ring first count)) js
+      → Rows w js r rows → Ready w q first count ms query fs r hs list → Holds w′ q first count ms query
+
+-- the same where the flagged messages have yet to be looked at
+pub record SiftedFrom (w : List ℕ) (q first count : ℕ) (fs : List ℕ) (r : Query) (hs : List ℕ) (list : Ranked) (w′ : List ℕ) : Type 0 where
   pub keeps : Keeps (listedIn q) (recordAt q + recordWords) w w′
   pub right : (ms : List Message) (query : Rank.Query) → Ready w q first count ms query fs r hs list → Holds w′ q first count ms query
+
+-- settled from the flagged messages, or nothing is written
+pub record Attempted (w : List ℕ) (q first count : ℕ) (fs : List ℕ) (r : Query) (hs : List ℕ) (b : Bool) (w′ : List ℕ) : Type 0 where
+  pub keeps : Keeps (listedIn q) (recordAt q + recordWords) w w′
+  pub certain : sumOf r hs ≡ 0 → b ≡ true
+  pub refused : b ≡ false → w′ ≡ w
+  pub right : b ≡ true → (ms : List Message) (query : Rank.Query) → Over w first count ms → Terms query → Says w q query → Is r query
+      → ((i : ℕ) → r .n ≤ i → getD hs i 0 ≡ 0) → Shown w first count fs ms (query .terms) (take (r .n) hs)
+      → ((j : ℕ) → j < slots → inRing first count j ≡ true → exceedsCells (query .terms) (take (r .n) hs) (slot w j .cells) ≡ true → flagOf fs j ≡ true)
+      → Holds w′ q first count ms query
+
+-- whoever exceeds one of the thresholds is flagged, and nobody else
+abbrev pub Exact : List ℕ → ℕ → ℕ → List ℕ → List Pair → List ℕ → Type 0
+Exact w first count fs qs hs = (j : ℕ) → flagOf fs j ≡ (inRing first count j && exceedsCells qs hs (slot w j .cells))
+
+-- as `SiftedFrom`, where the flags are exact for the thresholds already
+pub record Retuned (w : List ℕ) (q first count : ℕ) (fs : List ℕ) (r : Query) (hs : List ℕ) (list : Ranked) (w′ : List ℕ) : Type 0 where
+  pub keeps : Keeps (listedIn q) (recordAt q + recordWords) w w′
+  pub right : (ms : List Message) (query : Rank.Query) → Ready w q first count ms query fs r hs list
+      → Exact w first count fs (query .terms) (take (r .n) hs) → Holds w′ q first count ms query
 
 -- settled over the whole window
 pub record Refilled (w : List ℕ) (q first count : ℕ) (r : Query) (w′ : List ℕ) : Type 0 where
@@ -135,32 +178,36 @@ pub record SettledFrom (w : List ℕ) (q first count : ℕ) (fs : List ℕ) (r :
 abbrev pub arriving : ℕ → List ℕ
 arriving newest = cond (ltb newest slots) (newest ∷ []) []
 
--- whether an arriving message exceeds one of the thresholds
-pub record Arriving (w : List ℕ) (newest : ℕ) (r : Query) (hs : List ℕ) (b : Bool) : Type 0 where
-  pub right : AllRising (map (slot w) (arriving newest)) → Rising r → b ≡ reachedSlots (termsOf r) (take (r .n) hs) (map (slot w) (arriving newest))
+-- the flags without those of the slots that left, and with that of the arriving message where there is one
+pub record MovedFlags (w : List ℕ) (q : ℕ) (m : Move) (comes : Bool) (r : List ℕ) : Type 0 where
+  pub rest : List ℕ
+  pub left : Without (flags w q) (m .gone) (m .departed) rest
+  pub is : (j : ℕ) → flagOf r j ≡ cond (ltb (m .newest) slots && eqb j (m .newest)) comes (flagOf rest j)
 
--- whether that one does, or one of the d messages from slot o on
-pub record Reached (w : List ℕ) (o d : ℕ) (above : Bool) (r : Query) (hs : List ℕ) (b : Bool) : Type 0 where
-  pub right : AllRising (window w o d) → Rising r → b ≡ (above || reachedSlots (termsOf r) (take (r .n) hs) (window w o d))
+-- the least score by which a message changes a list of up to k: that of its last line where it is full, else any
+abbrev pub leastOf : ℕ → List Line → ℕ
+leastOf k l = cond (eqb (length l) k) (lastOf l) 1
 
--- the flags, with that of the arriving message where there is one
-pub record Arrived (w : List ℕ) (q newest : ℕ) (above : Bool) (r : List ℕ) : Type 0 where
-  pub is : (j : ℕ) → flagOf r j ≡ cond (ltb newest slots && eqb j newest) above (flagOf (flags w q) j)
+pub record Least (w : List ℕ) (q r : ℕ) : Type 0 where
+  pub is : (query : Rank.Query) → Terms query → Says w q query → getD w (listedIn q) 0 ≤ mostListed → r ≡ leastOf (query .k) (list w q)
 
--- whether an arriving message scores below a bound
-pub record NewestLow (w : List ℕ) (newest : ℕ) (r : Query) (bound : ℕ) (b : Bool) : Type 0 where
-  pub right : AllRising (map (slot w) (arriving newest)) → Rising r → b ≡ lowSlots (termsOf r) bound (map (slot w) (arriving newest))
-
--- whether the list is full, and neither that one nor one of the d messages from slot o on scores as much as its last
-pub record Stands (w : List ℕ) (q o d newest : ℕ) (r : Query) (b : Bool) : Type 0 where
-  pub right : getD w (listedIn q) 0 ≤ mostListed → AllRising (map (slot w) (arriving newest)) → AllRising (window w o d) → Rising r
-      → b ≡ (eqb (length (list w q)) (r .k)
-      && (lowSlots (termsOf r) (lastOf (list w q)) (map (slot w) (arriving newest)) && lowSlots (termsOf r) (lastOf (list w q)) (window w o d)))
-
--- the flags are stored without those of the d slots from slot o on, and nothing else is written
-pub record KeptList (w : List ℕ) (q o d : ℕ) (fs w′ : List ℕ) : Type 0 where
+-- only the flags are written
+pub record KeptList (w : List ℕ) (q : ℕ) (fs w′ : List ℕ) : Type 0 where
   pub keeps : Keeps (flagsIn q) (recordAt q + recordWords) w w′
-  pub flags-are : Without fs o d (flags w′ q)
+  pub flags-are : flags w′ q ≡ fs
+
+-- the messages of d slots from slot o on are taken out of a list, where one of them may change it
+pub record WithoutGone (w : List ℕ) (o d went least : ℕ) (l r : Ranked) : Type 0 where
+  pub within : r .count ≤ l .count
+  pub tidy : Tidy l → Tidy r
+  pub list-is : linesOf r ≡ cond (leb least went) (withouts (map (λ x. x .serial) (window w o d)) (linesOf l)) (linesOf l)
+
+-- an arriving message is put into a list of up to k, where it changes it
+pub record WithNewest (w : List ℕ) (newest came k least : ℕ) (l r : Ranked) : Type 0 where
+  pub within : r .count ≤ mostListed
+  pub tidy : Tidy l → Tidy r
+  pub list-is : l .count ≤ k
+      → linesOf r ≡ cond (ltb newest slots && leb least came) (grown k (record { serial = slot w newest .serial; score = came }) (linesOf l)) (linesOf l)
 
 -- A change of the window, in which `aa` are: of d + s slots from slot o on, those that hold `ga` go and the s from slot o′ on, which hold `sa`,
 -- stay; `ca` come.
@@ -175,6 +222,7 @@ pub record Change (w : List ℕ) (o d o′ s newest : ℕ) (aa ga sa ca : List M
   pub stay : window w o′ s ≡ map stored sa
   pub come : map (slot w) (arriving newest) ≡ map stored ca
   pub apart : newest < slots → inRing o (d + s) newest ≡ false
+  pub distinct : Distinct aa
   pub valid : Messages aa
   pub valid-new : Messages ca
 
@@ -182,24 +230,31 @@ pub record Change (w : List ℕ) (o d o′ s newest : ℕ) (aa ga sa ca : List M
 abbrev pub reaches : List ℕ → ℕ → List Message → List Message → Rank.Query → Bool
 reaches w q ga ca query = reached (query .terms) (thresholds w q (length (query .terms))) (ga ++ ca)
 
--- the terms of the messages that go and come
-abbrev pub movedTerms : List ℕ → ℕ → ℕ → ℕ → List ℕ
-movedTerms w o d newest = slotTerms (window w o d ++ map (slot w) (arriving newest))
+-- what a frame's tables and the flags say of a query that was right before it
+pub record Told (w : List ℕ) (q o′ n : ℕ) (ga ca : List Message) (query : Rank.Query) (touch : Touch) (fs : List ℕ) : Type 0 where
+  pub came : (m : Message) → In m ca → touch .came ≡ score (query .terms) (m .pairs)
+  pub went : (m : Message) → In m ga → score (query .terms) (m .pairs) ≤ touch .went
+  pub exact : Exact w o′ n fs (query .terms) (thresholds w q (length (query .terms)))
 
--- the set has these terms and no other
-abbrev pub Covers : List ℕ → ℕ → ℕ → ℕ → List Bool → Type 0
-Covers w o d newest set = SetOf (movedTerms w o d newest) set
+-- the list is changed in place, and what is kept beside it follows
+pub record Changed (w : List ℕ) (q : ℕ) (m : Move) (touch : Touch) (least : ℕ) (fs w′ : List ℕ) : Type 0 where
+  pub keeps : Keeps (listedIn q) (recordAt q + recordWords) w w′
+  pub right : (s : ℕ) (aa ga sa ca : List Message) (query : Rank.Query) → Change w (m .gone) (m .departed) (m .first) s (m .newest) aa ga sa ca
+      → m .count ≡ s + length ca → Terms query → Holds w q (m .gone) (m .departed + s) aa query → least ≡ leastOf (query .k) (list w q)
+      → Told w q (m .first) (m .count) ga ca query touch fs → Holds w′ q (m .first) (m .count) (sa ++ ca) query
 
--- whether one of the query's terms is in the set
-pub record Shares (w : List ℕ) (q : ℕ) (set : List Bool) (r : Bool) : Type 0 where
-  pub is : (query : Rank.Query) → Terms query → Says w q query → r ≡ anyIn set (map (λ p. p .term) (query .terms))
+-- the tables are those of the message that comes and of the messages that go
+pub record Tables (w : List ℕ) (m : Move) (coming going : List ℕ) : Type 0 where
+  pub new : TableOf (map (slot w) (arriving (m .newest))) coming
+  pub old : TableOf (window w (m .gone) (m .departed)) going
 
-pub record Updated (w : List ℕ) (q o d o′ count newest : ℕ) (set : List Bool) (r : Bool) (w′ : List ℕ) : Type 0 where
+pub record Updated (w : List ℕ) (q : ℕ) (m : Move) (coming going : List ℕ) (r : Bool) (w′ : List ℕ) : Type 0 where
   pub keeps : Keeps (listedIn q) (recordAt q + recordWords) w w′
   pub untouched : r ≡ false → w′ ≡ w
-  pub right : (s : ℕ) (aa ga sa ca : List Message) (query : Rank.Query) → Covers w o d newest set → Change w o d o′ s newest aa ga sa ca → count ≡ s + length ca
-      → Terms query → Holds w q o (d + s) aa query
-      → (r ≡ reaches w q ga ca query) × Holds w′ q o′ count (sa ++ ca) query
+  pub right : (s : ℕ) (aa ga sa ca : List Message) (query : Rank.Query) → Tables w m coming going
+      → Change w (m .gone) (m .departed) (m .first) s (m .newest) aa ga sa ca → m .count ≡ s + length ca
+      → Terms query → Holds w q (m .gone) (m .departed + s) aa query
+      → (r ≡ reaches w q ga ca query) × Holds w′ q (m .first) (m .count) (sa ++ ca) query
 
 -- the words of some pairs, 0 past them
 abbrev pub Packed : List Pair → List ℕ → Type 0

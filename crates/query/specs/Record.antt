@@ -60,3 +60,7 @@ pub record Holds (w : List ℕ) (q o n : ℕ) (ms : List Message) (query : Query
 abbrev pub HoldsAt : List ℕ → ℕ → ℕ → ℕ → (Query → List Message) → Option Query → Type 0
 HoldsAt w q o n ms none = (i : ℕ) → i < recordWords → getD w (recordAt q + i) 0 ≡ 0
 HoldsAt w q o n ms (some query) = Holds w q o n (ms query) query
+
+-- the same record, word for word
+abbrev pub SameRecord : List ℕ → List ℕ → ℕ → Type 0
+SameRecord w w′ q = (i : ℕ) → i < recordWords → getD w′ (recordAt q + i) 0 ≡ getD w (recordAt q + i) 0

@@ -1,17 +1,20 @@
 // The record of a registered query in the state memory: what is kept of it, and how a frame that reaches it updates that.
 ghost use mathlib.Core.Path.{_≡_};
 ghost use Prim.Native.Nat.{ℕ, _+_, _*_, _%_, _<_, _≤_};
-ghost use mathlib.Core.Bool.{not};
-ghost use lib.ListN.{length, getD};
+ghost use mathlib.Core.Bool.{not, _&&_};
+ghost use lib.ListN.{length, getD, take};
 ghost use lib.Dec.{eqb};
 ghost use Rattle.paper.specs.Frame.{numbers, mostTerms, mostListed};
 ghost use Rattle.paper.specs.Impact.{top};
 ghost use Rattle.paper.specs.Write.{side-by-side};
 ghost use Rattle.paper.specs.Layout.{stateLength, slots, recordAt};
 ghost use Rattle.memory.specs.Words.{words};
-ghost use Rattle.window.specs.Terms.{termLimit, Added};
+ghost use Rattle.window.specs.Table.{termLimit};
+ghost use Rattle.window.specs.Rows.{rowWidth};
 ghost use Rattle.rank.specs.Weights.{weightLimit};
-ghost use Rattle.query.specs.Post.{Clamped, InRange, LoadedQuery, LoadedThresholds, LoadedList, Lifted, secure, StoredKept, Finished, Refilled, SettledFrom, Arriving, Reached, Arrived, NewestLow, Stands, KeptList, movedTerms, Shares, Updated, Packed, PutQuery, Registered, Cleared};
+ghost use Rattle.query.specs.Touch.{Touched};
+ghost use Rattle.query.specs.Post.{Clamped, InRange, LoadedQuery, LoadedThresholds, LoadedList, Lifted, secure, sameFrom, StoredKept, Finished, Attempted};
+ghost use Rattle.query.specs.Post.{SiftedFrom, Retuned, Refilled, SettledFrom, MovedFlags, Least, KeptList, WithoutGone, WithNewest, Changed, Updated, Packed, PutQuery, Registered, Cleared};
 use candidates::Query;
 use paper::layout;
 use rank::Ranked;
@@ -47,7 +50,7 @@ fn clamped(v: u32, least: u32, most: u32) -> u32
 }
 
 // The query that the record holds.
-pub fn load_query(state: &[u8], q: usize) -> Query
+fn load_query(state: &[u8], q: usize) -> Query
     requires { ⌜ (length (now state) ≡ stateLength) × (q < numbers) ⌝ }
     ensures { λ r. ⌜ LoadedQuery (words (now (state .entry))) q r ⌝ }
 {
@@ -138,24 +141,25 @@ fn raised(query: Query, thresholds: [u32; 8], list: Ranked) -> [u32; 8]
     [0u32; 8]
 }
 
-// The thresholds raised, candidates no longer above them dropped, and all of it stored.
+// The thresholds raised, candidates no longer above them dropped, and all of it stored: of messages that have been looked at.
 fn finish(
     state: &mut [u8],
     q: usize,
-    first: usize,
-    count: usize,
-    flags: [u32; 9],
+    picked: &[u16],
+    m: usize,
+    rows: &[u16],
     query: Query,
     thresholds: [u32; 8],
     list: Ranked,
 )
-    requires { ⌜ (length (now state) ≡ stateLength) × (q < numbers) × (first < slots) × (count < slots) ⌝ }
+    requires { ⌜ (length (now state) ≡ stateLength) × (q < numbers) × (m ≤ slots) × (length (now picked) ≡ slots) × (length (now rows) ≡ rowWidth * slots) ⌝ }
+    requires { ⌜ ((i : ℕ) → i < m → getD (now picked) i 0 < slots) ⌝ }
     requires { ⌜ InRange query ⌝ }
     requires { ⌜ (list .count ≤ mostListed) × ((i : ℕ) → getD thresholds i 0 ≤ top) ⌝ }
-    ensures { λ _. ⌜ Finished (words (now (state .entry))) q first count flags query thresholds list (words (now (state .exit))) ⌝ }
+    ensures { λ _. ⌜ Finished (words (now (state .entry))) q (take m (now (picked .entry))) (now (rows .entry)) query thresholds list (words (now (state .exit))) ⌝ }
 {
     let next = raised(query, thresholds, list);
-    let kept = candidates::sifted(state, first, count, flags, query, next);
+    let kept = candidates::sifted_rows(picked, m, rows, query, next);
     store(state, q, next, list, kept);
 }
 
@@ -176,15 +180,40 @@ fn is_safe(query: Query, thresholds: [u32; 8], list: Ranked) -> bool
     sum < rank::last_score(list)
 }
 
+// The query is settled from the flagged messages, each looked at once; not where a message that isn't flagged could be listed.
+fn settled(
+    state: &mut [u8],
+    q: usize,
+    first: usize,
+    count: usize,
+    flags: [u32; 9],
+    query: Query,
+    thresholds: [u32; 8],
+) -> bool
+    requires { ⌜ (length (now state) ≡ stateLength) × (q < numbers) × (first < slots) × (count < slots) ⌝ }
+    requires { ⌜ InRange query ⌝ }
+    requires { ⌜ ((i : ℕ) → getD thresholds i 0 ≤ top) ⌝ }
+    ensures { λ r. ⌜ Attempted (words (now (state .entry))) q first count flags query thresholds r (words (now (state .exit))) ⌝ }
+{
+    let mut picked = [0u16; layout::SLOTS];
+    let mut rows = [0u16; candidates::ROWS];
+    let flagged = candidates::flagged_slots(first, count, flags, &mut picked);
+    let m = candidates::look(state, &mut picked, flagged, query, &mut rows);
+    let list = candidates::ranked_rows(state, &picked, m, &rows, query);
+    if !is_safe(query, thresholds, list) {
+        return false;
+    }
+    finish(state, q, &picked, m, &rows, query, thresholds, list);
+    true
+}
+
 // The query is settled over the whole window, from zero thresholds.
 fn refill(state: &mut [u8], q: usize, first: usize, count: usize, query: Query)
     requires { ⌜ (length (now state) ≡ stateLength) × (q < numbers) × (first < slots) × (count < slots) ⌝ }
     requires { ⌜ InRange query ⌝ }
     ensures { λ _. ⌜ Refilled (words (now (state .entry))) q first count query (words (now (state .exit))) ⌝ }
 {
-    let flags = candidates::exceeding(state, first, count, query, [0u32; 8]);
-    let list = candidates::ranked(state, first, count, flags, query);
-    finish(state, q, first, count, flags, query, [0u32; 8], list);
+    let _done = settled(state, q, first, count, [4294967295u32; 9], query, [0u32; 8]);
 }
 
 // The query is settled from its candidates, or from the whole window where they aren't enough.
@@ -202,168 +231,258 @@ fn settle(
     requires { ⌜ ((i : ℕ) → getD thresholds i 0 ≤ top) ⌝ }
     ensures { λ _. ⌜ SettledFrom (words (now (state .entry))) q first count flags query thresholds (words (now (state .exit))) ⌝ }
 {
-    let list = candidates::ranked(state, first, count, flags, query);
-    if is_safe(query, thresholds, list) {
-        finish(state, q, first, count, flags, query, thresholds, list);
-    } else {
+    if !settled(state, q, first, count, flags, query, thresholds) {
         refill(state, q, first, count, query);
     }
 }
 
-// Whether the message in slot `newest`, where that is one, exceeds one of the thresholds.
-fn newest_exceeds(state: &[u8], newest: usize, query: Query, thresholds: [u32; 8]) -> bool
-    requires { ⌜ (length (now state) ≡ stateLength) × (query .n ≤ mostTerms) ⌝ }
-    ensures { λ r. ⌜ Arriving (words (now (state .entry))) newest query thresholds r ⌝ }
-{
-    if newest < layout::SLOTS {
-        return candidates::exceeds_in(state, newest, query, thresholds);
-    }
-    false
+// What a frame moves: `departed` messages from slot `gone` on leave, the window is then `count` slots from slot `first` on, and a message arrived in slot
+// `newest` where that is one.
+pub struct Move {
+    pub gone: usize,
+    pub departed: usize,
+    pub first: usize,
+    pub count: usize,
+    pub newest: usize,
 }
 
-// Whether a frame reaches the query: the arriving message exceeds one of the thresholds, or one of the `departed` messages from slot `gone` on.
-fn is_reached(
-    state: &[u8],
-    gone: usize,
-    departed: usize,
-    above: bool,
-    query: Query,
-    thresholds: [u32; 8],
-) -> bool
-    requires { ⌜ (length (now state) ≡ stateLength) × (gone < slots) × (query .n ≤ mostTerms) ⌝ }
-    ensures { λ r. ⌜ Reached (words (now (state .entry))) gone departed above query thresholds r ⌝ }
-{
-    if above {
-        return true;
-    }
-    candidates::reaches(state, gone, departed, query, thresholds)
+// What a query's terms have in the messages that come and go: whether the one that comes exceeds a threshold and its score, whether one that goes does,
+// and a bound on what any of these scores.
+pub struct Touch {
+    pub comes: bool,
+    pub goes: bool,
+    pub came: u32,
+    pub went: u32,
 }
 
-// The candidates' flags, with that of the arriving message where there is one.
-fn arrived_flags(state: &[u8], q: usize, newest: usize, above: bool) -> [u32; 9]
-    requires { ⌜ (length (now state) ≡ stateLength) × (q < numbers) ⌝ }
-    ensures { λ r. ⌜ Arrived (words (now (state .entry))) q newest above r ⌝ }
+fn wide(x: u16) -> u32
+    ensures { λ r. ⌜ (r ≡ x) × (r < 65536) ⌝ }
 {
-    let flags = memory::load9(state, layout::RECORDS + layout::RECORD * q + layout::FLAGS);
-    if newest < layout::SLOTS {
-        return candidates::with_flag(flags, newest, above);
-    }
-    flags
+    x as u32
 }
 
-// Whether the message in slot `newest`, where that is one, scores below the bound.
-fn newest_below(state: &[u8], newest: usize, query: Query, bound: u32) -> bool
-    requires { ⌜ (length (now state) ≡ stateLength) × InRange query ⌝ }
-    ensures { λ r. ⌜ NewestLow (words (now (state .entry))) newest query bound r ⌝ }
+fn both(a: bool, b: bool) -> bool
+    ensures { λ r. ⌜ r ≡ (a && b) ⌝ }
 {
-    if newest < layout::SLOTS {
-        return candidates::all_below(state, newest, 1, query, bound);
-    }
-    true
+    if a { b } else { false }
 }
 
-// Whether the list stands as it is: it is full, and no message that goes or comes scores as much as its last.
-fn list_stands(
-    state: &[u8],
-    q: usize,
-    gone: usize,
-    departed: usize,
-    newest: usize,
-    query: Query,
-) -> bool
-    requires { ⌜ (length (now state) ≡ stateLength) × (q < numbers) × (gone < slots) × InRange query ⌝ }
-    ensures { λ r. ⌜ Stands (words (now (state .entry))) q gone departed newest query r ⌝ }
-{
-    let k = query.k;
-    let list = load_list(state, q);
-    if list.count != k {
-        return false;
-    }
-    let last = rank::last_score(list);
-    if !newest_below(state, newest, query, last) {
-        return false;
-    }
-    candidates::all_below(state, gone, departed, query, last)
-}
-
-// The candidates less those that departed; list and thresholds stay.
-fn keep_list(state: &mut [u8], q: usize, gone: usize, departed: usize, flags: [u32; 9])
-    requires { ⌜ (length (now state) ≡ stateLength) × (q < numbers) × (gone < slots) ⌝ }
-    ensures { λ _. ⌜ KeptList (words (now (state .entry))) q gone departed flags (words (now (state .exit))) ⌝ }
-{
-    let rest = candidates::without(flags, gone, departed);
-    memory::store9(
-        state,
-        layout::RECORDS + layout::RECORD * q + layout::FLAGS,
-        rest,
-    );
-}
-
-// The terms of the messages that go and come are put into the set.
-pub fn add_moved(state: &[u8], gone: usize, departed: usize, newest: usize, set: &mut [bool])
-    requires { ⌜ (length (now state) ≡ stateLength) × (gone < slots) × (length (now set) ≡ termLimit) ⌝ }
-    ensures { λ _. ⌜ (length (now (set .exit)) ≡ termLimit) × Added (movedTerms (words (now (state .entry))) gone departed newest) (now (set .entry)) (now (set .exit)) ⌝ }
-{
-    let mut j = gone;
-    let mut left = departed;
-    while 0 < left {
-        window::add_terms(state, j, set);
-        j = window::following(j);
-        left -= 1;
-    }
-    if newest < layout::SLOTS {
-        window::add_terms(state, newest, set);
-    }
-}
-
-// Whether one of the query's terms is in the set.
-fn shares(state: &[u8], q: usize, set: &[bool]) -> bool
-    requires { ⌜ (length (now state) ≡ stateLength) × (q < numbers) × (length (now set) ≡ termLimit) ⌝ }
-    ensures { λ r. ⌜ Shares (words (now (state .entry))) q (now (set .entry)) r ⌝ }
+// One look at each of the query's terms, in the tables of the impacts that come and of the greatest that go.
+fn touched(state: &[u8], q: usize, coming: &[u16], going: &[u16]) -> Touch
+    requires { ⌜ (length (now state) ≡ stateLength) × (q < numbers) × (length (now coming) ≡ termLimit) × (length (now going) ≡ termLimit) ⌝ }
+    ensures { λ r. ⌜ Touched (words (now (state .entry))) q (now (coming .entry)) (now (going .entry)) r ⌝ }
 {
     let at = layout::RECORDS + layout::RECORD * q;
     let n = clamped(memory::get(state, at + layout::SIZE), 1, MOST_TERMS) as usize;
+    let mut comes = false;
+    let mut goes = false;
+    let mut came: u32 = 0;
+    let mut went: u32 = 0;
     let mut i: usize = 0;
     while i < n {
-        let term = (memory::get(state, at + layout::PAIRS + i) / WEIGHT_LIMIT % TERMS) as usize;
-        if set[term] {
-            return true;
-        }
+        let pair = memory::get(state, at + layout::PAIRS + i);
+        let threshold = memory::get(state, at + layout::THRESHOLDS + i);
+        let weight = pair % WEIGHT_LIMIT;
+        let term = (pair / WEIGHT_LIMIT % TERMS) as usize;
+        let new = wide(coming[term]);
+        let old = wide(going[term]);
+        comes = window::either(comes, threshold < new);
+        goes = window::either(goes, threshold < old);
+        came += weight * new;
+        went += weight * old;
         i += 1;
     }
-    false
+    Touch {
+        comes,
+        goes,
+        came,
+        went,
+    }
 }
 
-// A query is updated where a frame reaches it: `departed` messages from slot `gone` on left, and one arrived in slot `newest` where that is one.
-// `moved` has the terms of all of these: most queries have none of them.
-pub fn update(
-    state: &mut [u8],
-    q: usize,
+// The candidates' flags at the thresholds that stand: without those that left, and with the one that came where it exceeds one of them.
+fn moved_flags(state: &[u8], q: usize, moved: Move, comes: bool) -> [u32; 9]
+    requires { ⌜ (length (now state) ≡ stateLength) × (q < numbers) × (moved .gone < slots) ⌝ }
+    ensures { λ r. ⌜ MovedFlags (words (now (state .entry))) q moved comes r ⌝ }
+{
+    let newest = moved.newest;
+    let flags = memory::load9(state, layout::RECORDS + layout::RECORD * q + layout::FLAGS);
+    let rest = candidates::without(flags, moved.gone, moved.departed);
+    if newest < layout::SLOTS {
+        return candidates::with_flag(rest, newest, comes);
+    }
+    rest
+}
+
+// The least score by which a message that goes or comes can change the list: that of the last entry of a full one, any of one that isn't.
+fn least(state: &[u8], q: usize) -> u32
+    requires { ⌜ (length (now state) ≡ stateLength) × (q < numbers) ⌝ }
+    ensures { λ r. ⌜ Least (words (now (state .entry))) q r ⌝ }
+{
+    let at = layout::RECORDS + layout::RECORD * q;
+    let listed = clamped(memory::get(state, at + layout::LISTED), 0, MOST_LISTED);
+    if listed == 0 {
+        return 1;
+    }
+    if listed != memory::get(state, at) {
+        return 1;
+    }
+    memory::get(state, at + layout::SCORES + (listed as usize - 1))
+}
+
+// List and thresholds stay: only the candidates change.
+fn keep_list(state: &mut [u8], q: usize, flags: [u32; 9])
+    requires { ⌜ (length (now state) ≡ stateLength) × (q < numbers) ⌝ }
+    ensures { λ _. ⌜ KeptList (words (now (state .entry))) q flags (words (now (state .exit))) ⌝ }
+{
+    memory::store9(
+        state,
+        layout::RECORDS + layout::RECORD * q + layout::FLAGS,
+        flags,
+    );
+}
+
+// The list without the messages of `departed` slots from slot `gone` on, where one of them may change it.
+fn without_gone(
+    state: &[u8],
     gone: usize,
     departed: usize,
+    went: u32,
+    least: u32,
+    list: Ranked,
+) -> Ranked
+    requires { ⌜ (length (now state) ≡ stateLength) × (gone < slots) × (list .count ≤ mostListed) ⌝ }
+    ensures { λ r. ⌜ WithoutGone (words (now (state .entry))) gone departed went least list r ⌝ }
+{
+    let mut rest = list;
+    if went < least {
+        return rest;
+    }
+    let mut j = gone;
+    let mut left = departed;
+    while 0 < left {
+        let serial = window::serial_in(state, j);
+        rest = rank::removed(rest, serial);
+        j = window::following(j);
+        left -= 1;
+    }
+    rest
+}
+
+// The list with the arriving message, where there is one and it changes it.
+fn with_newest(state: &[u8], newest: usize, came: u32, k: usize, least: u32, list: Ranked) -> Ranked
+    requires { ⌜ (length (now state) ≡ stateLength) × (k ≤ mostListed) × (list .count ≤ mostListed) ⌝ }
+    ensures { λ r. ⌜ WithNewest (words (now (state .entry))) newest came k least list r ⌝ }
+{
+    if layout::SLOTS <= newest {
+        return list;
+    }
+    if came < least {
+        return list;
+    }
+    // only in memory that no call left
+    if k < list.count {
+        return list;
+    }
+    let serial = window::serial_in(state, newest);
+    rank::inserted(list, k, serial, came)
+}
+
+fn same(a: [u32; 8], b: [u32; 8]) -> bool
+    ensures { λ r. ⌜ r ≡ sameFrom 8 a b ⌝ }
+{
+    let mut is = true;
+    let mut i: usize = 0;
+    while i < 8 {
+        is = both(is, a[i] == b[i]);
+        i += 1;
+    }
+    is
+}
+
+// The thresholds raised beside a list that is right; the candidates are looked at, those that the flags say.
+fn sift(
+    state: &mut [u8],
+    q: usize,
     first: usize,
     count: usize,
-    newest: usize,
-    moved: &[bool],
-) -> bool
+    flags: [u32; 9],
+    query: Query,
+    thresholds: [u32; 8],
+    list: Ranked,
+)
     requires { ⌜ (length (now state) ≡ stateLength) × (q < numbers) × (first < slots) × (count < slots) ⌝ }
-    requires { ⌜ (gone < slots) × (length (now moved) ≡ termLimit) ⌝ }
-    ensures { λ r. ⌜ Updated (words (now (state .entry))) q gone departed first count newest (now (moved .entry)) r (words (now (state .exit))) ⌝ }
+    requires { ⌜ InRange query ⌝ }
+    requires { ⌜ (list .count ≤ mostListed) × ((i : ℕ) → getD thresholds i 0 ≤ top) ⌝ }
+    ensures { λ _. ⌜ SiftedFrom (words (now (state .entry))) q first count flags query thresholds list (words (now (state .exit))) ⌝ }
 {
-    if !shares(state, q, moved) {
-        return false;
+    let mut picked = [0u16; layout::SLOTS];
+    let mut rows = [0u16; candidates::ROWS];
+    let flagged = candidates::flagged_slots(first, count, flags, &mut picked);
+    let m = candidates::look(state, &mut picked, flagged, query, &mut rows);
+    finish(state, q, &picked, m, &rows, query, thresholds, list);
+}
+
+// The list is right, and the flags are for these thresholds: they are raised, and candidates looked at only where that changes one.
+fn retune(
+    state: &mut [u8],
+    q: usize,
+    first: usize,
+    count: usize,
+    flags: [u32; 9],
+    query: Query,
+    thresholds: [u32; 8],
+    list: Ranked,
+)
+    requires { ⌜ (length (now state) ≡ stateLength) × (q < numbers) × (first < slots) × (count < slots) ⌝ }
+    requires { ⌜ InRange query ⌝ }
+    requires { ⌜ (list .count ≤ mostListed) × ((i : ℕ) → getD thresholds i 0 ≤ top) ⌝ }
+    ensures { λ _. ⌜ Retuned (words (now (state .entry))) q first count flags query thresholds list (words (now (state .exit))) ⌝ }
+{
+    let next = raised(query, thresholds, list);
+    if same(next, thresholds) {
+        store(state, q, thresholds, list, flags);
+    } else {
+        sift(state, q, first, count, flags, query, thresholds, list);
     }
+}
+
+// The list changes in place. Where it was full and no longer is, a message that wasn't listed may have to be.
+fn change(state: &mut [u8], q: usize, moved: Move, touch: Touch, least: u32, flags: [u32; 9])
+    requires { ⌜ (length (now state) ≡ stateLength) × (q < numbers) × (moved .gone < slots) × (moved .first < slots) × (moved .count < slots) ⌝ }
+    ensures { λ _. ⌜ Changed (words (now (state .entry))) q moved touch least flags (words (now (state .exit))) ⌝ }
+{
+    let first = moved.first;
+    let count = moved.count;
     let query = load_query(state, q);
     let thresholds = load_thresholds(state, q);
-    let above = newest_exceeds(state, newest, query, thresholds);
-    if !is_reached(state, gone, departed, above, query, thresholds) {
+    let list = load_list(state, q);
+    let k = query.k;
+    let rest = without_gone(state, moved.gone, moved.departed, touch.went, least, list);
+    let next = with_newest(state, moved.newest, touch.came, k, least, rest);
+    if both(list.count == k, next.count != k) {
+        settle(state, q, first, count, flags, query, thresholds);
+    } else {
+        retune(state, q, first, count, flags, query, thresholds, next);
+    }
+}
+
+// A query is updated where a frame reaches it; the tables have the impacts that come and the greatest that go, of all terms.
+pub fn update(state: &mut [u8], q: usize, moved: Move, coming: &[u16], going: &[u16]) -> bool
+    requires { ⌜ (length (now state) ≡ stateLength) × (q < numbers) × (moved .gone < slots) × (moved .first < slots) × (moved .count < slots) ⌝ }
+    requires { ⌜ (length (now coming) ≡ termLimit) × (length (now going) ≡ termLimit) ⌝ }
+    ensures { λ r. ⌜ Updated (words (now (state .entry))) q moved (now (coming .entry)) (now (going .entry)) r (words (now (state .exit))) ⌝ }
+{
+    let touch = touched(state, q, coming, going);
+    if !window::either(touch.comes, touch.goes) {
         return false;
     }
-    let flags = arrived_flags(state, q, newest, above);
-    if list_stands(state, q, gone, departed, newest, query) {
-        keep_list(state, q, gone, departed, flags);
+    let flags = moved_flags(state, q, moved, touch.comes);
+    let bound = least(state, q);
+    if window::either(bound <= touch.came, bound <= touch.went) {
+        change(state, q, moved, touch, bound, flags);
     } else {
-        settle(state, q, first, count, flags, query, thresholds);
+        keep_list(state, q, flags);
     }
     true
 }

@@ -1,7 +1,7 @@
 pub mod HeaderLaws
 pub mod RingLaws
 pub mod SlotLaws
-pub mod TermLaws
 pub mod TableLaws
+pub mod RowLaws
 pub mod WalkLaws
 pub mod LogLaws

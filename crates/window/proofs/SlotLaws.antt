@@ -5,8 +5,8 @@ use native.Mathlib.Omega.{arith}
 use mathlib.Core.Path.{_≡_, refl, ap, ap₂, _∙_}
 use mathlib.Core.Logic.{_⊎_, inl, inr, ⊎-elim}
 use mathlib.Core.List.{List, [], _∷_, map}
-use lib.ListN.{length, getD, set, length-set}
-use lib.Seq.{getD-set-same, getD-set-other}
+use lib.ListN.{length, getD, set, length-set, length-take, length-drop}
+use lib.Seq.{getD-take, getD-drop, getD-set-same, getD-set-other}
 use Rattle.paper.specs.Frame.{mostPairs}
 use Rattle.paper.specs.Impact.{impact, squares}
 use Rattle.paper.specs.Window.{Message}
@@ -21,6 +21,20 @@ use Rattle.impact.proofs.CellLaws.{squares-side}
 use Rattle.window.specs.Slot.{slot, sizeAt, stored, ring, window}
 use Rattle.window.specs.Cursor.{Written}
 use Rattle.window.proofs.RingLaws.{ring-length, ring-below}
+
+-- ---- the cells of a slot
+
+module _ (s : List ℕ) (j : ℕ) (long : length s ≡ stateLength) (below : j < slots) where
+  pub size-most : sizeAt (words s) j ≤ mostPairs
+  size-most = min-le-right (getD (words s) (slotAt j + cellCountOffset) 0) mostPairs
+
+  pub slot-size : length (slot (words s) j .cells) ≡ sizeAt (words s) j
+  unfolding slot
+  slot-size = let m = size-most in simp (length-take, length-drop, words-length) (omega arith)
+
+  pub slot-cell : (i : ℕ) → i < sizeAt (words s) j → getD (slot (words s) j .cells) i 0 ≡ getD (words s) (cellsAt j + i) 0
+  unfolding slot
+  slot-cell i h = rw (getD-take, getD-drop)
 
 -- ---- what a slot and a window read
 

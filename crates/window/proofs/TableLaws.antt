@@ -2,17 +2,16 @@
 use Prim.Native.Nat.{ℕ, suc, _+_, _-_, _≤_, _<_, max}
 use native.Mathlib.Nat.{zero-max}
 use native.Mathlib.Omega.{arith}
-use mathlib.Core.Path.{_≡_, refl, sym, ap, ap₂, _∙_, subst}
+use mathlib.Core.Path.{_≡_, refl, sym, ap, ap₂, _∙_}
 use mathlib.Core.Bool.{Bool, true, false, cond}
 use mathlib.Core.List.{List, [], _∷_, map}
 use lib.ListN.{length, getD, set, drop, replicate, getD-replicate, drop-of-length-le}
 use lib.Seq.{getD-set-same, getD-set-other, drop-cons}
 use lib.Dec.{eqb}
-use borrow.Author.Tests.{eqb-true, eqb-false}
-use Rattle.impact.specs.Cell.{cellTerm, cellImpact}
-use Rattle.window.specs.Slot.{Slot, slot, next, ring, window}
-use Rattle.window.specs.Terms.{termLimit}
-use Rattle.window.specs.Table.{highest, greatest, entryOf, Raised, RaisedBy, TableOf}
+use borrow.Author.Tests.{eqb-true, eqb-false, ne-eqb}
+use Rattle.impact.specs.Cell.{cellTerm, cellImpact, lookup, RisingCells}
+use Rattle.window.specs.Slot.{Slot, slot, next, window}
+use Rattle.window.specs.Table.{termLimit, highest, greatest, entryOf, Raised, RaisedBy, TableOf}
 use Rattle.window.proofs.RingLaws.{ring-step, ring-none}
 
 -- What is left to raise the table by (`rest` gives what each term has there) makes it the first one raised by all of it.
@@ -79,3 +78,22 @@ module _ (w : List ℕ) (o n : ℕ) {first table : List ℕ} (j left : ℕ) wher
 -- from a table of zeros on
 pub table-of : {xs : List Slot} {table : List ℕ} → RaisedBy xs (replicate termLimit 0) table → TableOf xs table
 table-of {xs} raised = record { is = λ t h. raised .is t h ∙ ap (λ (n : ℕ). max n (greatest t xs)) (getD-replicate termLimit t 0 0 h) ∙ zero-max (greatest t xs) }
+
+-- ---- of cells that rise only one has a term
+
+highest-missing : (t : ℕ) (cs : List ℕ) → ((i : ℕ) → i < length cs → cellTerm (getD cs i 0) ≡ t → ⊥) → highest t cs ≡ 0
+unfolding highest
+highest-missing t [] h = refl
+highest-missing t (c ∷ cs) h = rw (ne-eqb (cellTerm c) t (h 0 (omega arith)), highest-missing t cs (λ i l. h (suc i) (omega arith))) refl
+
+pub highest-lookup : (t : ℕ) (cs : List ℕ) → RisingCells cs → highest t cs ≡ lookup t cs
+unfolding highest lookup
+highest-lookup t [] r = refl
+highest-lookup t (c ∷ cs) r = go (eqb (cellTerm c) t) refl (highest-lookup t cs (λ i j l k. r (suc i) (suc j) (omega arith) (omega arith)))
+  where
+    go : (b : Bool) → eqb (cellTerm c) t ≡ b → highest t cs ≡ lookup t cs
+        → max (cond b (cellImpact c) 0) (highest t cs) ≡ cond b (cellImpact c) (lookup t cs)
+    go true e ih =
+        let none = highest-missing t cs (λ i l z. omega (arith, r 0 (suc i) (omega arith) (omega arith), eqb-true (cellTerm c) t e)) in
+        omega arith
+    go false e ih = rw ih (zero-max (lookup t cs))

@@ -1,4 +1,4 @@
 pub mod Slot
-pub mod Terms
 pub mod Table
+pub mod Rows
 pub mod Cursor

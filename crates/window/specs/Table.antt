@@ -1,13 +1,17 @@
 -- A table with a place for each term: the greatest impact that some messages have in it. Assumes nothing.
-use Prim.Native.Nat.{ℕ, _<_, max}
+use Prim.Native.Nat.{ℕ, _^_, _<_, max}
 use mathlib.Core.Path.{_≡_}
 use mathlib.Core.Bool.{cond}
 use mathlib.Core.List.{List, [], _∷_}
 use lib.ListN.{getD}
 use lib.Dec.{eqb}
+use Rattle.paper.specs.Frame.{termWidth}
 use Rattle.impact.specs.Cell.{cellTerm, cellImpact}
 use Rattle.window.specs.Slot.{Slot}
-use Rattle.window.specs.Terms.{termLimit}
+
+-- how many terms there are
+abbrev pub termLimit : ℕ
+termLimit = 2 ^ termWidth
 
 -- the greatest impact of a term among some cells, 0 where none has the term
 unfoldable pub highest : ℕ → List ℕ → ℕ

@@ -1,6 +1,7 @@
 // The window: a ring of message slots in the state memory, and the cursor that says which of them are in force.
 ghost use mathlib.Core.Path.{_≡_};
 ghost use Prim.Native.Nat.{ℕ, _+_, _*_, _%_, _^_, _<_, _≤_, max};
+ghost use mathlib.Core.Bool.{_||_};
 ghost use lib.ListN.{length, getD};
 ghost use Rattle.paper.specs.Frame.{termWidth, countWidth, mostPairs, mostTerms};
 ghost use Rattle.paper.specs.Window.{past};
@@ -8,10 +9,10 @@ ghost use Rattle.paper.specs.Write.{side-by-side};
 ghost use Rattle.paper.specs.Layout.{slots, stateWords, stateLength};
 ghost use Rattle.memory.specs.Words.{words};
 ghost use Rattle.memory.specs.Keeps.{Stored};
-ghost use Rattle.impact.specs.Cell.{cellsOf, Looked};
+ghost use Rattle.impact.specs.Cell.{cellsOf, lookup};
 ghost use Rattle.window.specs.Slot.{slot, sizeAt, window, next, holdsSerial};
-ghost use Rattle.window.specs.Terms.{termLimit, HasAny, Added, cellTerms};
-ghost use Rattle.window.specs.Table.{Raised, RaisedBy};
+ghost use Rattle.window.specs.Table.{termLimit, Raised, RaisedBy};
+ghost use Rattle.window.specs.Rows.{rowWidth, LookedAt};
 ghost use Rattle.window.specs.Cursor.{Loaded, PutCursor, Advanced, Roomy, Written};
 use impact::Impact;
 use paper::MOST_PAIRS;
@@ -61,52 +62,22 @@ fn size_in(state: &[u8], j: usize) -> usize
     if size < MOST_PAIRS { size } else { MOST_PAIRS }
 }
 
-// The impacts of the message in slot j in the first n terms of a query.
-pub fn impacts_in(state: &[u8], j: usize, terms: [u32; 8], n: usize) -> [u32; 8]
-    requires { ⌜ (length (now state) ≡ stateLength) × (j < slots) × (n ≤ mostTerms) ⌝ }
-    ensures { λ r. ⌜ Looked (slot (words (now (state .entry))) j .cells) terms n r ⌝ }
+// The impact of the message in slot j in the term: that of the first cell with it, 0 where the message lacks it.
+pub fn impact_in(state: &[u8], j: usize, term: u32) -> u32
+    requires { ⌜ (length (now state) ≡ stateLength) × (j < slots) ⌝ }
+    ensures { λ r. ⌜ r ≡ lookup term (slot (words (now (state .entry))) j .cells) ⌝ }
 {
-    let size = size_in(state, j);
-    impact::impacts(
-        state,
-        layout::RING + layout::SLOT * j + layout::CELLS,
-        size,
-        terms,
-        n,
-    )
-}
-
-// Whether the message in slot j has a term in the set.
-pub fn has_any(state: &[u8], j: usize, set: &[bool]) -> bool
-    requires { ⌜ (length (now state) ≡ stateLength) × (j < slots) × (length (now set) ≡ termLimit) ⌝ }
-    ensures { λ r. ⌜ HasAny (slot (words (now (state .entry))) j .cells) (now (set .entry)) r ⌝ }
-{
-    let at = layout::RING + layout::SLOT * j + layout::CELLS;
+    let cells = layout::RING + layout::SLOT * j + layout::CELLS;
     let size = size_in(state, j);
     let mut i: usize = 0;
     while i < size {
-        let term = (memory::get(state, at + i) / impact::TERM_FACTOR) as usize;
-        if set[term] {
-            return true;
+        let cell = memory::get(state, cells + i);
+        if cell / impact::TERM_FACTOR == term {
+            return cell % impact::COUNT_FACTOR;
         }
         i += 1;
     }
-    false
-}
-
-// The terms of the message in slot j are put into the set.
-pub fn add_terms(state: &[u8], j: usize, set: &mut [bool])
-    requires { ⌜ (length (now state) ≡ stateLength) × (j < slots) × (length (now set) ≡ termLimit) ⌝ }
-    ensures { λ _. ⌜ (length (now (set .exit)) ≡ termLimit) × Added (cellTerms (slot (words (now (state .entry))) j .cells)) (now (set .entry)) (now (set .exit)) ⌝ }
-{
-    let at = layout::RING + layout::SLOT * j + layout::CELLS;
-    let size = size_in(state, j);
-    let mut i: usize = 0;
-    while i < size {
-        let term = (memory::get(state, at + i) / impact::TERM_FACTOR) as usize;
-        set[term] = true;
-        i += 1;
-    }
+    0
 }
 
 fn greater(a: u16, b: u16) -> u16
@@ -137,12 +108,41 @@ pub fn raise_all(state: &[u8], first: usize, count: usize, table: &mut [u16])
     ensures { λ _. ⌜ (length (now (table .exit)) ≡ termLimit) × RaisedBy (window (words (now (state .entry))) first count) (now (table .entry)) (now (table .exit)) ⌝ }
 {
     let mut j = first;
-    let mut left = count;
-    while 0 < left {
+    let mut unseen = count;
+    while 0 < unseen {
         raise_impacts(state, j, table);
         j = following(j);
-        left -= 1;
+        unseen -= 1;
     }
+}
+
+// Without a branch where it is put in place.
+pub fn either(a: bool, b: bool) -> bool
+    ensures { λ r. ⌜ r ≡ (a || b) ⌝ }
+{
+    if a { true } else { b }
+}
+
+// The impacts of the message in slot j go into the row from place `at` on: that of a term to the term's place in the row, and those of all terms
+// that the table gives place 0 to the first one, which nobody reads: so no cell is tested. From the last cell to the first, so that the first
+// cell of a term counts whatever memory holds. Whether one of the terms has a place other than 0.
+pub fn look_at(state: &[u8], j: usize, places: &[u8], rows: &mut [u16], at: usize) -> bool
+    requires { ⌜ (length (now state) ≡ stateLength) × (j < slots) × (length (now places) ≡ termLimit) × (at + rowWidth ≤ length (now rows)) ⌝ }
+    requires { ⌜ ((t : ℕ) → getD (now places) t 0 ≤ mostTerms) ⌝ }
+    ensures { λ r. ⌜ LookedAt (slot (words (now (state .entry))) j .cells) (now (places .entry)) at (now (rows .entry)) (now (rows .exit)) r ⌝ }
+{
+    let base = layout::RING + layout::SLOT * j + layout::CELLS;
+    let mut has = false;
+    let mut i = size_in(state, j);
+    while 0 < i {
+        i -= 1;
+        let cell = memory::get(state, base + i);
+        let term = (cell / impact::TERM_FACTOR) as usize;
+        let place = places[term] as usize;
+        rows[at + place] = (cell % impact::COUNT_FACTOR) as u16;
+        has = either(has, 0 < place);
+    }
+    has
 }
 
 pub struct Cursor {

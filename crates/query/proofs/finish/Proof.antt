@@ -3,7 +3,7 @@ use mathlib.Core.Path.{_≡_}
 use lib.ListN.{length}
 use native.Mathlib.Omega.{arith}
 use borrow.Author.Needs.{needs, length-unmapped}
-use Rattle.query.proofs.SettleLaws.{Sixteen, finished}
+use Rattle.query.proofs.SettleLaws.{Sixteen, sifted-exact, finished}
 use Rattle.query.proofs.finish.Statement.{statement}
 use Rattle.query.proofs.finish.Tie as tie
 
@@ -18,21 +18,24 @@ eight-next c = search (needs, length-unmapped)
 
 returns : tie.Need-returns
 returns c =
-    let t = c .before .before .store in
-    let f = c .before .before .before .before in
-    let s = f .before .before .before .before in
-    let a = s .args in
+    let t = c .before .before in
+    let f = t .before .before in
+    let r = f .before in
+    let s = r .before .before .before .before in
+    let range = s .pre .1 .1 .0 in
     record {
-      keeps = t .ensures .keeps;
-      right = finished (omega arith) (s .pre .1 .0) (sixteen s) (eight s) (eight-next (f .before .before)) (f .before .before .raised .ensures) (f .sifted .ensures) (t .ensures);
+      keeps = t .store .ensures .keeps;
+      right = λ first count fs ms query ho picked looked ready.
+          finished range (sixteen s) (eight s) (eight-next r) (r .raised .ensures) ready ho
+          (sifted-exact range (sixteen s) (eight s) (eight-next r) (r .raised .ensures) ready ho picked looked (f .sifted-rows .ensures)) (t .store .ensures);
     }
 
 pub finish-spec : {M : Type 1} → statement M
 finish-spec =
     tie.close
     (tie.spec
-    (λ c κs. c .before .pre .1)
-    (λ c κs. search needs)
+    (λ c κs. c .before .before .before .pre .1 .1)
+    (λ c κs. let p = c .before .before .before .before .pre in ((search needs, search needs, search needs, p .1 .1 .0 .n-most), p .1 .0))
     (λ c κs. search needs)
     (λ c. search needs)
     returns)

@@ -10,13 +10,12 @@ returns : tie.Need-returns
 unfolding flags
 returns c =
     let t = c .before .before .store9 .ensures in
-    record { keeps = keeps-wider (omega arith) (omega arith) (t .keeps); flags-are = rw (t .reads) (c .before .before .before .before .without .ensures) }
+    record { keeps = keeps-wider (omega arith) (omega arith) (t .keeps); flags-are = t .reads }
 
 pub keep-list-spec : {M : Type 1} → statement M
 keep-list-spec =
     tie.close
     (tie.spec
-    (λ c κs. search needs)
     (λ c. search needs)
     (λ c. search needs)
     (λ c. search needs)

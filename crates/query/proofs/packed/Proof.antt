@@ -4,7 +4,7 @@ use native.Mathlib.Omega.{arith}
 use mathlib.Core.Path.{refl}
 use lib.ListN.{getD}
 use Rattle.rank.specs.Weights.{weightLimit}
-use Rattle.window.specs.Terms.{termLimit}
+use Rattle.window.specs.Table.{termLimit}
 use borrow.Author.Needs.{needs}
 use Rattle.candidates.proofs.FlagLaws.{zero-at}
 use Rattle.query.proofs.RegisterLaws.{Packing, packing-more, packed-all}

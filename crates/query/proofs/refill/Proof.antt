@@ -1,33 +1,28 @@
 -- `refill` meets its contract. Assumes nothing.
 use native.Mathlib.Omega.{arith}
-use borrow.Author.Needs.{needs, length-unmapped}
+use lib.ListN.{replicate}
+use borrow.Author.Needs.{needs}
 use Rattle.candidates.proofs.FlagLaws.{zero-at}
-use Rattle.query.proofs.LiftLaws.{weights-below}
-use Rattle.query.proofs.SettleLaws.{Sixteen, ready-all}
+use Rattle.query.proofs.SettleLaws.{all-flagged, shown-all, zero-sum}
 use Rattle.query.proofs.refill.Statement.{statement}
 use Rattle.query.proofs.refill.Tie as tie
 
-sixteen : (c : tie.After-ranked) → Sixteen (c .ranked .result)
-sixteen c = record { most = omega (arith, c .ranked .ensures .within, c .before .before .before .before .before .pre .1 .k-most); serials = search (needs, length-unmapped); scores = search (needs, length-unmapped) }
-
 returns : tie.Need-returns
 returns c =
-    let f = c .before .before in
-    let g = f .before .before in
-    let e = g .before .before in
-    let s = e .before .before .before in
+    let t = c .before .before in
+    let s = t .before .before .before in
+    let r = s .args .query in
+    let e = t .settled .ensures .certain (zero-sum (r .n) (r .weights) (replicate 8 0) (λ i. zero-at 8 i)) in
     record {
-      keeps = f .finish .ensures .keeps;
+      keeps = t .settled .ensures .keeps;
       right = λ ms query over terms says is.
-          f .finish .ensures .right ms query (ready-all (omega arith) (g .ranked .ensures) ms query over terms says is (s .pre .1) (sixteen g) (e .exceeding .ensures));
+          t .settled .ensures .right e ms query over terms says is (λ i h. zero-at 8 i) (shown-all (omega arith) over) (λ j h i x. all-flagged j h);
     }
 
 pub refill-spec : {M : Type 1} → statement M
 refill-spec =
     tie.close
     (tie.spec
-    (λ c κs. let p = c .before .before .pre in (search needs, search needs, p .1 .n-most))
-    (λ c κs. let p = c .before .before .before .before .pre in ((search needs, search needs, p .1 .n-most, p .1 .k-most), weights-below (p .1)))
-    (λ c κs. let p = c .before .before .before .before .before .before .pre in (search needs, (p .1, (omega (arith, c .before .ranked .ensures .within, p .1 .k-most), λ i. rw (zero-at 8 i) (omega arith)))))
+    (λ c κs. let p = c .before .before .pre in (search needs, (p .1, λ i. rw (zero-at 8 i) (omega arith))))
     (λ c. search needs)
     returns)

@@ -1,47 +1,41 @@
 -- `settle` meets its contract. Assumes nothing.
-use mathlib.Core.Path.{_≡_, sym, _∙_}
-use lib.ListN.{length}
+use Prim.Native.Nat.{ℕ}
 use native.Mathlib.Omega.{arith}
-use borrow.Author.Needs.{needs, length-unmapped}
-use Rattle.query.proofs.SettleLaws.{Sixteen, ready-chosen}
-use Rattle.query.proofs.LiftLaws.{weights-below}
+use mathlib.Core.Path.{subst, _∙_}
+use mathlib.Core.List.{List}
+use borrow.Author.Needs.{needs}
+use borrow.Author.Tests.{not-true, not-false}
+use Rattle.memory.specs.Words.{words}
+use Rattle.query.specs.Post.{Refilled}
+use Rattle.query.proofs.SettleLaws.{shown-exact}
 use Rattle.query.proofs.settle.Statement.{statement}
 use Rattle.query.proofs.settle.Tie as tie
 
-sixteen : (c : tie.After-ranked) → Sixteen (c .ranked .result)
-sixteen c = record { most = omega (arith, c .ranked .ensures .within, c .before .before .before .pre .1 .0 .k-most); serials = search (needs, length-unmapped); scores = search (needs, length-unmapped) }
-
-eight : (c : tie.Start) → length (c .args .thresholds) ≡ 8
-eight c = search (needs, length-unmapped)
-
 returns : tie.Need-returns
 returns c =
-    let f = c .before .before in
-    let t = f .before .before .before in
-    let g = t .before in
-    let s = g .before .before .before in
-    record {
-      keeps = f .finish .ensures .keeps;
-      right = λ ms query over terms says is unused exact.
-          f .finish .ensures .right ms query
-          (ready-chosen (omega arith) (g .ranked .ensures) ms query over terms says is (s .args .thresholds) (eight s) (s .pre .1 .0) (sixteen g) unused exact (sym (t .is-safe .ensures) ∙ f .before .before .if1 .taken));
-    }
+    let t = c .before .before in
+    let i = t .before .before in
+    let g = i .before .before .before in
+    let a = g .before .before .before .args in
+    let same = g .settled .ensures .refused (not-true _ (i .if1 .taken)) in
+    let refilled = subst (λ (v : List ℕ). Refilled v (a .q) (a .first) (a .count) (a .query) (words (t .refill .last .0))) same (t .refill .ensures) in
+    record { keeps = refilled .keeps; right = λ ms query over terms says is unused exact. refilled .right ms query over terms says is }
 
 returns-2 : tie.Need-returns-2
 returns-2 c =
-    let f = c .before .before in
+    let g = c .before .before .before in
     record {
-      keeps = f .refill .ensures .keeps;
-      right = λ ms query over terms says is unused exact. f .refill .ensures .right ms query over terms says is;
+      keeps = g .settled .ensures .keeps;
+      right = λ ms query over terms says is unused exact.
+          g .settled .ensures .right (not-false _ (c .if1 .left)) ms query over terms says is unused (shown-exact (omega arith) over exact)
+          (λ j h i e. exact j h i ∙ e);
     }
 
 pub settle-spec : {M : Type 1} → statement M
 settle-spec =
     tie.close
     (tie.spec
-    (λ c κs. let p = c .before .before .pre in ((search needs, search needs, p .1 .0 .n-most, p .1 .0 .k-most), weights-below (p .1 .0)))
     (λ c κs. search needs)
-    (λ c κs. let p = c .before .before .before .before .before .before .pre in (search needs, (p .1 .0, (omega (arith, c .before .before .before .ranked .ensures .within, p .1 .0 .k-most), p .1 .1))))
     (λ c κs. search needs)
     (λ c. search needs)
     returns

@@ -1,0 +1,415 @@
+-- Slots picked, the table of places, and rows of impacts: one law for each way that a turn goes. Assumes nothing.
+use Prim.Native.Nat.{ℕ, zero, suc, _+_, _-_, _*_, _%_, _≤_, _<_, suc-le-suc}
+use native.Mathlib.Nat.{mul-zero, add-zero}
+use native.Mathlib.Numerals.{add-one}
+use native.Mathlib.Omega.{arith}
+use mathlib.Core.Path.{_≡_, refl, sym, ap, ap₂, _∙_}
+use mathlib.Core.Bool.{Bool, true, false, cond}
+use mathlib.Core.Logic.{_⊎_, inl, inr, ⊎-elim}
+use mathlib.Core.List.{List, [], _∷_, _++_, map, append-nil}
+use lib.ListN.{length, getD, set, take, drop, length-set, drop-of-length-le}
+use lib.Seq.{getD-set-same, getD-set-other, getD-take, take-set-le, take-suc-set, drop-cons, append-snoc, length-take-le}
+use lib.Dec.{eqb, ltb}
+use borrow.Author.Count.{below-more}
+use borrow.Author.Tests.{eqb-true, eqb-false, eq-eqb, ne-eqb, le-ltb, ltb-true, ltb-false}
+use Rattle.paper.specs.Frame.{mostTerms}
+use Rattle.paper.specs.Layout.{slots}
+use Rattle.paper.specs.Order.{In}
+use Rattle.paper.specs.Rank.{Line}
+use Rattle.paper.specs.Sort.{select}
+use Rattle.paper.specs.Impact.{scoreBy}
+use Rattle.paper.specs.Threshold.{exceedsBy}
+use Rattle.paper.specs.Write.{side-by-side}
+use Rattle.impact.specs.Cell.{cellTerm, cellImpact, lookup, RisingTerms}
+use Rattle.wire.specs.Bits.{val}
+use Rattle.paper.proofs.SortLaws.{in-append, in-left, in-right}
+use Rattle.rank.specs.Listing.{grown}
+use Rattle.window.specs.Slot.{slot, next, ring}
+use Rattle.window.specs.Table.{termLimit}
+use Rattle.window.specs.Rows.{rowWidth, found, touches, Narrow, LookedAt}
+use Rattle.window.proofs.RingLaws.{ring-step, ring-none}
+use Rattle.window.proofs.RowLaws.{found-none}
+use Rattle.candidates.specs.declared.Query.{Query}
+use Rattle.candidates.specs.Flags.{flagOf}
+use Rattle.candidates.specs.Post.{Rising, WithFlag, termsOf, lineIn, grows}
+use Rattle.candidates.specs.Match.{scoreCells, exceedsCells}
+use Rattle.candidates.proofs.WalkLaws.{flag-stands}
+use Rattle.candidates.specs.Rows.{Picked, Known, Placed, RowOf, Having, Looked}
+
+-- a list whose place p is filled after those before it
+pub filled-more : (f : ℕ → ℕ) (xs : List ℕ) (p x : ℕ) → p < length xs → ((k : ℕ) → k < p → getD xs k 0 ≡ f k) → x ≡ f p
+    → (k : ℕ) → k < p + 1 → getD (set xs p x) k 0 ≡ f k
+filled-more f xs p x long all here =
+    below-more (λ (k : ℕ). getD (set xs p x) k 0 ≡ f k) p (λ k h. getD-set-other xs p k x 0 (λ e. omega arith) ∙ all k h) (getD-set-same xs p x 0 long ∙ here)
+
+-- ---- slots picked
+
+-- m are picked, and the n from slot j on are left
+pub record Picking (fs : List ℕ) (o count : ℕ) (picked : List ℕ) (m j n : ℕ) : Type 0 where
+  pub within : m + n ≤ count
+  pub long : length picked ≡ slots
+  pub below : (i : ℕ) → i < m → getD picked i 0 < slots
+  pub left : take m picked ++ select (flagOf fs) (ring j n) ≡ select (flagOf fs) (ring o count)
+
+pub picking-none : (fs : List ℕ) (o count : ℕ) (picked : List ℕ) → length picked ≡ slots → Picking fs o count picked 0 o count
+picking-none fs o count picked l = record { within = omega arith; long = l; below = λ i h. absurd (omega arith); left = refl }
+
+module _ (fs : List ℕ) (o count : ℕ) (picked : List ℕ) (m j n : ℕ) (some : 0 < n) (before : Picking fs o count picked m j n) where
+  pub picking-more : m < slots → j < slots → flagOf fs j ≡ true → Picking fs o count (set picked m j) (m + 1) (next j) (n - 1)
+  unfolding select
+  picking-more room low e = record {
+    within = let h = before .within in omega arith;
+    long = length-set picked m j ∙ before .long;
+    below = λ i h. this i (eqb i m) refl h;
+    left =
+        rw (add-one, take-suc-set picked m j (omega (arith, before .long)))
+        (append-snoc (take m picked) j (select (flagOf fs) (ring (next j) (n - 1))) ∙ rw (ring-step j n some, e) at (before .left));
+  }
+    where
+      this : (i : ℕ) (b : Bool) → eqb i m ≡ b → i < m + 1 → getD (set picked m j) i 0 < slots
+      this i true q h = rw (eqb-true i m q, getD-set-same picked m j 0 (omega (arith, before .long))) low
+      this i false q h =
+          let ne = eqb-false i m q in
+          rw (getD-set-other picked m i j 0 ne) (before .below i (omega arith))
+
+  pub picking-skipped : flagOf fs j ≡ false → Picking fs o count picked m (next j) (n - 1)
+  unfolding select
+  picking-skipped e = record {
+    within = let h = before .within in omega arith;
+    long = before .long;
+    below = before .below;
+    left = rw (ring-step j n some, e) at (before .left);
+  }
+
+pub picking-all : (fs : List ℕ) (o count : ℕ) (picked : List ℕ) (m j n : ℕ) → n ≤ 0 → Picking fs o count picked m j n → Picked o count fs picked m
+unfolding select
+picking-all fs o count picked m j n none p = record {
+  within = let h = p .within in omega arith;
+  long = p .long;
+  below = p .below;
+  right = sym (append-nil (take m picked)) ∙ rw (ring-none j n none) at (p .left);
+}
+
+-- ---- the table of places
+
+-- the first i of n terms have their places, and no other term has one
+pub record Placing (n : ℕ) (ts : List ℕ) (i : ℕ) (places : List ℕ) : Type 0 where
+  pub long : length places ≡ termLimit
+  pub low : (t : ℕ) → getD places t 0 ≤ i
+  pub right : RisingTerms n ts → ((p : ℕ) → p < n → getD ts p 0 < termLimit) → (t p : ℕ) → p < i → eqb (getD places t 0) (suc p) ≡ eqb t (getD ts p 0)
+
+pub placing-none : (n : ℕ) (ts places : List ℕ) → length places ≡ termLimit → ((t : ℕ) → getD places t 0 ≡ 0) → Placing n ts 0 places
+placing-none n ts places l z = record { long = l; low = λ t. omega (arith, z t); right = λ r k t p h. absurd (omega arith) }
+
+pub placing-more : (n : ℕ) (ts places : List ℕ) (i : ℕ) → i < n → Placing n ts i places → Placing n ts (i + 1) (set places (getD ts i 0 % termLimit) (i + 1))
+placing-more n ts places i more before = record {
+  long = length-set places u (i + 1) ∙ before .long;
+  low = λ t. least t (eqb t u) refl;
+  right = λ r k t p h. let e : u ≡ getD ts i 0 = omega (arith, k i more) in given r k e t p h (eqb t u) refl;
+}
+  where
+    u : ℕ
+    u = getD ts i 0 % termLimit
+
+    inside : u < length places
+    inside = omega (arith, before .long)
+
+    same : (t : ℕ) → eqb t u ≡ true → getD (set places u (i + 1)) t 0 ≡ i + 1
+    same t q = ap (λ (s : ℕ). getD (set places u (i + 1)) s 0) (eqb-true t u q) ∙ getD-set-same places u (i + 1) 0 inside
+
+    other : (t : ℕ) → eqb t u ≡ false → getD (set places u (i + 1)) t 0 ≡ getD places t 0
+    other t q = getD-set-other places u t (i + 1) 0 (eqb-false t u q)
+
+    least : (t : ℕ) (b : Bool) → eqb t u ≡ b → getD (set places u (i + 1)) t 0 ≤ i + 1
+    least t true q = omega (arith, same t q)
+    least t false q = omega (arith, other t q, before .low t)
+
+    -- the term that gets its place
+    this : RisingTerms n ts → u ≡ getD ts i 0 → (t p : ℕ) → p < i + 1 → t ≡ u → (b : Bool) → eqb p i ≡ b → eqb (i + 1) (suc p) ≡ eqb t (getD ts p 0)
+    this r e t p h z true q =
+        let s = eqb-true p i q in
+        eq-eqb (i + 1) (suc p) (omega arith) ∙ sym (eq-eqb t (getD ts p 0) (rw s (z ∙ e)))
+    this r e t p h z false q =
+        let ne = eqb-false p i q in
+        let l = r p i (omega arith) more in
+        ne-eqb (i + 1) (suc p) (omega arith) ∙ sym (ne-eqb t (getD ts p 0) (λ y. omega arith))
+
+    -- any other
+    that : RisingTerms n ts → ((p : ℕ) → p < n → getD ts p 0 < termLimit) → u ≡ getD ts i 0 → (t p : ℕ) → p < i + 1 → (t ≡ u → ⊥) → (b : Bool) → eqb p i ≡ b
+        → eqb (getD places t 0) (suc p) ≡ eqb t (getD ts p 0)
+    that r k e t p h z true q =
+        let s = eqb-true p i q in
+        let l = before .low t in
+        ne-eqb (getD places t 0) (suc p) (λ y. omega arith) ∙ sym (ne-eqb t (getD ts p 0) (λ y. z (y ∙ ap (λ (x : ℕ). getD ts x 0) s ∙ sym e)))
+    that r k e t p h z false q = let ne = eqb-false p i q in before .right r k t p (omega arith)
+
+    given : RisingTerms n ts → ((p : ℕ) → p < n → getD ts p 0 < termLimit) → u ≡ getD ts i 0 → (t p : ℕ) → p < i + 1 → (b : Bool) → eqb t u ≡ b
+        → eqb (getD (set places u (i + 1)) t 0) (suc p) ≡ eqb t (getD ts p 0)
+    given r k e t p h true q = rw (same t q) (this r e t p h (eqb-true t u q) (eqb p i) refl)
+    given r k e t p h false q = rw (other t q) (that r k e t p h (eqb-false t u q) (eqb p i) refl)
+
+-- ---- rows
+
+-- a term's place gets what the cells have of the term
+pub found-lookup : (q : Query) (places : List ℕ) → Placed q places → Rising q → Known q → (p : ℕ) → p < q .n → (cs : List ℕ)
+    → found places (suc p) cs 0 ≡ lookup (getD (q .terms) p 0) cs
+unfolding found lookup
+found-lookup q places t r k p h [] = refl
+found-lookup q places t r k p h (c ∷ cs) =
+    ap₂ (λ (b : Bool) (x : ℕ). cond b (cellImpact c) x) (t .right r k (cellTerm c) p h) (found-lookup q places t r k p h cs)
+
+pub val-most : (b : Bool) → val b ≤ 1
+val-most true = omega arith
+val-most false = omega arith
+
+-- whether the message in slot j has a term with a place
+abbrev pub touchedIn : List ℕ → List ℕ → ℕ → Bool
+touchedIn w places j = touches places (slot w j .cells)
+
+-- of the first i of m slots, those with a term that has a place
+pub record Keeping (w places js : List ℕ) (m : ℕ) (picked : List ℕ) (kept i : ℕ) : Type 0 where
+  pub within : kept ≤ i
+  pub long : length picked ≡ slots
+  pub below : (k : ℕ) → k < kept → getD picked k 0 < slots
+  pub rest : (k : ℕ) → i ≤ k → getD picked k 0 ≡ getD js k 0
+  pub left : take kept picked ++ select (touchedIn w places) (drop i (take m js)) ≡ select (touchedIn w places) (take m js)
+
+pub keeping-none : (w places js : List ℕ) (m : ℕ) → length js ≡ slots → Keeping w places js m js 0 0
+keeping-none w places js m l = record { within = omega arith; long = l; below = λ k h. absurd (omega arith); rest = λ k h. refl; left = refl }
+
+module _ (w places js : List ℕ) (m : ℕ) (picked : List ℕ) (kept i j : ℕ) (more : i < m) (room : m ≤ slots) (all : length js ≡ slots) (this : j ≡ getD js i 0)
+    (before : Keeping w places js m picked kept i) where
+  -- the slots left begin with this one
+  first-left : drop i (take m js) ≡ j ∷ drop (i + 1) (take m js)
+  first-left =
+      drop-cons (take m js) i 0 (omega (arith, length-take-le m js (omega arith)))
+      ∙ ap₂ (λ (x k : ℕ). x ∷ drop k (take m js)) (getD-take m js i 0 more ∙ sym this) (sym (add-one i))
+
+  pub keeping-more : j < slots → touchedIn w places j ≡ true → Keeping w places js m (set picked kept j) (kept + 1) (i + 1)
+  unfolding select
+  keeping-more low e = record {
+    within = let h = before .within in omega arith;
+    long = length-set picked kept j ∙ before .long;
+    below = λ k h. these k (eqb k kept) refl h;
+    rest = λ k h. let l = before .within in getD-set-other picked kept k j 0 (λ z. omega arith) ∙ before .rest k (omega arith);
+    left =
+        rw (add-one, take-suc-set picked kept j (omega (arith, before .long, before .within)))
+        (append-snoc (take kept picked) j (select (touchedIn w places) (drop (i + 1) (take m js))) ∙ rw (first-left, e) at (before .left));
+  }
+    where
+      these : (k : ℕ) (b : Bool) → eqb k kept ≡ b → k < kept + 1 → getD (set picked kept j) k 0 < slots
+      these k true q h = rw (eqb-true k kept q, getD-set-same picked kept j 0 (omega (arith, before .long, before .within))) low
+      these k false q h =
+          let ne = eqb-false k kept q in
+          rw (getD-set-other picked kept k j 0 ne) (before .below k (omega arith))
+
+  pub keeping-skipped : touchedIn w places j ≡ false → Keeping w places js m (set picked kept j) kept (i + 1)
+  unfolding select
+  keeping-skipped e = record {
+    within = let h = before .within in omega arith;
+    long = length-set picked kept j ∙ before .long;
+    below = λ k h. rw (getD-set-other picked kept k j 0 (λ z. omega arith)) (before .below k h);
+    rest = λ k h. let l = before .within in getD-set-other picked kept k j 0 (λ z. omega arith) ∙ before .rest k (omega arith);
+    left = rw (take-set-le kept picked kept j (omega arith)) (rw (first-left, e) at (before .left));
+  }
+
+  -- by the digit of what was seen
+  pub keeping-turn : (b : Bool) → j < slots → touchedIn w places j ≡ b → Keeping w places js m (set picked kept j) (kept + val b) (i + 1)
+  keeping-turn true low e = keeping-more low e
+  keeping-turn false low e = rw (add-zero kept) (keeping-skipped e)
+
+-- the first i slots have their rows, and no place of the other rows has anything but the first of the next one
+pub record Looking (w js : List ℕ) (q : Query) (rows : List ℕ) (i : ℕ) : Type 0 where
+  pub narrow : Narrow rows
+  pub right : Rising q → Known q → (k : ℕ) → k < i → RowOf (slot w (getD js k 0) .cells) q rows k
+  pub blank : (x : ℕ) → rowWidth * i < x → getD rows x 0 ≡ 0
+
+pub looking-none : (w js : List ℕ) (q : Query) (rows : List ℕ) → ((x : ℕ) → getD rows x 0 ≡ 0) → Looking w js q rows 0
+looking-none w js q rows z = record { narrow = λ x. omega (arith, z x); right = λ r t k h. absurd (omega arith); blank = λ x h. z x }
+
+module _ (w js : List ℕ) (q : Query) (places rows rows′ : List ℕ) (i j : ℕ) (b : Bool) (few : q .n ≤ mostTerms) (table : Placed q places)
+    (new : LookedAt (slot w j .cells) places (rowWidth * i) rows rows′ b) (before : Looking w js q rows i) where
+  pub looking-more : i < length js → Looking w (set js i j) q rows′ (i + 1)
+  looking-more inside = record {
+    narrow = new .narrow (before .narrow);
+    right = λ r t.
+        below-more (λ (k : ℕ). RowOf (slot w (getD (set js i j) k 0) .cells) q rows′ k) i
+        (λ k h p l.
+        new .before (rowWidth * k + 1 + p) (omega arith)
+        ∙ before .right r t k h p l
+        ∙ ap (λ (x : ℕ). lookup (getD (q .terms) p 0) (slot w x .cells)) (sym (getD-set-other js i k j 0 (λ e. omega arith)))) (here r t);
+    blank = λ x h. new .after x (omega arith) ∙ before .blank x (omega arith);
+  }
+    where
+      here : Rising q → Known q → RowOf (slot w (getD (set js i j) i 0) .cells) q rows′ i
+      here r t p l =
+          let n : rowWidth * i + 1 + p ≡ rowWidth * i + suc p = omega arith in
+          ap (λ (x : ℕ). getD rows′ x 0) n
+          ∙ new .is (suc p) (omega arith)
+          ∙ ap (found places (suc p) (slot w j .cells)) (before .blank (rowWidth * i + suc p) (omega arith))
+          ∙ found-lookup q places table r t p l (slot w j .cells)
+          ∙ ap (λ (x : ℕ). lookup (getD (q .terms) p 0) (slot w x .cells)) (sym (getD-set-same js i j 0 inside))
+
+  -- a message without a term that has a place leaves the row as it was
+  pub looking-skipped : touchedIn w places j ≡ false → Looking w (set js i j) q rows′ i
+  looking-skipped e = record {
+    narrow = new .narrow (before .narrow);
+    right = λ r t k h p l.
+        new .before (rowWidth * k + 1 + p) (omega arith)
+        ∙ before .right r t k h p l
+        ∙ ap (λ (x : ℕ). lookup (getD (q .terms) p 0) (slot w x .cells)) (sym (getD-set-other js i k j 0 (λ e. omega arith)));
+    blank = λ x h. any x h (ltb x (rowWidth * i + rowWidth)) refl;
+  }
+    where
+      same : (x : ℕ) → rowWidth * i < x → x < rowWidth * i + rowWidth → getD rows′ x 0 ≡ 0
+      same x h l =
+          let n : rowWidth * i + suc (x - rowWidth * i - 1) ≡ x = omega arith in
+          ap (λ (y : ℕ). getD rows′ y 0) (sym n)
+          ∙ new .is (suc (x - rowWidth * i - 1)) (omega arith)
+          ∙ found-none places (slot w j .cells) (x - rowWidth * i - 1) (getD rows (rowWidth * i + suc (x - rowWidth * i - 1)) 0) e
+          ∙ ap (λ (y : ℕ). getD rows y 0) n
+          ∙ before .blank x h
+
+      any : (x : ℕ) → rowWidth * i < x → (b : Bool) → ltb x (rowWidth * i + rowWidth) ≡ b → getD rows′ x 0 ≡ 0
+      any x h true e = same x h (ltb-true x (rowWidth * i + rowWidth) e)
+      any x h false e = new .after x (ltb-false x (rowWidth * i + rowWidth) e) ∙ before .blank x h
+
+  pub looking-turn : (d : Bool) → i < length js → touchedIn w places j ≡ d → Looking w (set js i j) q rows′ (i + val d)
+  looking-turn true inside e = looking-more inside
+  looking-turn false inside e = rw (add-zero i) (looking-skipped e)
+
+pub looked-all : (w places js : List ℕ) (q : Query) (m : ℕ) (picked rows : List ℕ) (kept i : ℕ) → m ≤ i → i ≤ m → m ≤ slots → length js ≡ slots
+    → length rows ≡ rowWidth * slots → Placed q places → Keeping w places js m picked kept i → Looking w picked q rows kept
+    → Looked w (take m js) q m kept picked rows
+unfolding select
+looked-all w places js q m picked rows kept i h h′ room all wide table k l = record {
+  within = omega (arith, k .within);
+  long = k .long;
+  rows-long = wide;
+  below = k .below;
+  having = record {
+    test = touchedIn w places;
+    kept =
+        sym (append-nil (take kept picked))
+        ∙ rw none at (k .left);
+    silent = λ r t j e p o. sym (found-lookup q places table r t p o (slot w j .cells)) ∙ found-none places (slot w j .cells) p 0 e;
+  };
+  right = record {
+    narrow = l .narrow;
+    right = λ r t x y p o.
+        let n = length-take-le kept picked (omega (arith, k .within, k .long)) in
+        let c : x < kept = omega arith in
+        rw (getD-take kept picked x 0 c) (l .right r t x c p o);
+  };
+}
+  where
+    short : length (take m js) ≤ i
+    short = omega (arith, length-take-le m js (omega arith))
+
+    none : drop i (take m js) ≡ []
+    none = drop-of-length-le (take m js) short
+
+-- ---- slots without one of the query's terms
+
+-- what is 0 in the terms scores nothing, and exceeds no threshold
+score-silent : (n : ℕ) (ts ws cs : List ℕ) → ((p : ℕ) → p < n → lookup (getD ts p 0) cs ≡ 0) → scoreCells (side-by-side n ts ws) cs ≡ 0
+unfolding side-by-side scoreBy
+score-silent zero ts ws cs z = refl
+score-silent (suc n) [] ws cs z = refl
+score-silent (suc n) (t ∷ ts) [] cs z = refl
+score-silent (suc n) (t ∷ ts) (v ∷ ws) cs z =
+    omega (arith, ap (λ (x : ℕ). v * x) (z 0 (omega arith)), mul-zero v, score-silent n ts ws cs (λ p h. z (suc p) (suc-le-suc h)))
+
+exceeds-silent : (n : ℕ) (ts ws hs cs : List ℕ) → ((p : ℕ) → p < n → lookup (getD ts p 0) cs ≡ 0) → exceedsCells (side-by-side n ts ws) hs cs ≡ false
+unfolding side-by-side exceedsBy
+exceeds-silent zero ts ws hs cs z = refl
+exceeds-silent (suc n) [] ws hs cs z = refl
+exceeds-silent (suc n) (t ∷ ts) [] hs cs z = refl
+exceeds-silent (suc n) (t ∷ ts) (v ∷ ws) [] cs z = refl
+exceeds-silent (suc n) (t ∷ ts) (v ∷ ws) (h ∷ hs) cs z =
+    rw (z 0 (omega arith), le-ltb h 0 (omega arith)) (exceeds-silent n ts ws hs cs (λ p l. z (suc p) (suc-le-suc l)))
+
+-- a line of score 0 isn't listed
+pub grown-none : (k : ℕ) (e : Line) (l : List Line) → e .score ≡ 0 → grown k e l ≡ l
+unfolding grown
+grown-none k e l z = rw z
+
+-- lines of score 0 left out
+grows-select : (k : ℕ) (line : ℕ → Line) (test : ℕ → Bool) → ((j : ℕ) → test j ≡ false → line j .score ≡ 0) → (l : List Line) (js : List ℕ)
+    → grows k l (map line (select test js)) ≡ grows k l (map line js)
+unfolding grows select
+grows-select k line test none l [] = refl
+grows-select k line test none l (j ∷ js) = go (λ x. grows-select k line test none x js) (test j) refl
+  where
+    go : ((x : List Line) → grows k x (map line (select test js)) ≡ grows k x (map line js)) → (b : Bool) → test j ≡ b
+        → grows k l (map line (cond b (j ∷ select test js) (select test js))) ≡ grows k (grown k (line j) l) (map line js)
+    go ih true e = ih (grown k (line j) l)
+    go ih false e = ih l ∙ ap (λ (x : List Line). grows k x (map line js)) (sym (grown-none k (line j) l (none j e)))
+
+module _ {w : List ℕ} {q : Query} {js js′ : List ℕ} (by : Having w q js js′) (rising : Rising q) (known : Known q) where
+  -- the same list
+  pub having-grows : (k : ℕ) → grows k [] (map (lineIn w q) js′) ≡ grows k [] (map (lineIn w q) js)
+  having-grows k =
+      ap (λ (xs : List ℕ). grows k [] (map (lineIn w q) xs)) (by .kept)
+      ∙ grows-select k (lineIn w q) (by .test) (λ j e. score-silent (q .n) (q .terms) (q .weights) (slot w j .cells) (by .silent rising known j e)) [] js
+
+  -- whoever is left out exceeds no threshold
+  pub having-exceeds : (hs : List ℕ) (j : ℕ) → by .test j ≡ false → exceedsCells (termsOf q) hs (slot w j .cells) ≡ false
+  having-exceeds hs j e = exceeds-silent (q .n) (q .terms) (q .weights) hs (slot w j .cells) (by .silent rising known j e)
+
+-- ---- the messages looked at, one after the other
+
+-- the list of those left
+module _ (k : ℕ) (line : ℕ → Line) (js : List ℕ) (i : ℕ) (l : List Line) where
+  pub grows-next : i < length js → grows k (grown k (line (getD js i 0)) l) (map line (drop (i + 1) js)) ≡ grows k l (map line (drop i js))
+  unfolding grows
+  grows-next h = rw (drop-cons js i 0 h, add-one)
+
+  pub grows-end : length js ≤ i → grows k l (map line (drop i js)) ≡ l
+  unfolding grows
+  grows-end h = rw (drop-of-length-le js h)
+
+-- a line put into a list by its parts
+pub same-line : {s s′ v v′ : ℕ} (k : ℕ) (l : List Line) → s ≡ s′ → v ≡ v′ → grown k (record { serial = s; score = v }) l ≡ grown k (record { serial = s′; score = v′ }) l
+same-line k l e f = ap₂ (λ (s v : ℕ). grown k (record { serial = s; score = v }) l) e f
+
+-- the slots have the flag that the test gives, and any other has that or none
+pub record Marked (test : ℕ → Bool) (xs r : List ℕ) : Type 0 where
+  pub done : (t : ℕ) → In t xs → flagOf r t ≡ test t
+  pub either : (t : ℕ) → (flagOf r t ≡ false) ⊎ (flagOf r t ≡ test t)
+
+-- no other slot has a flag
+abbrev pub Unmarked : List ℕ → List ℕ → Type 0
+Unmarked xs r = (t : ℕ) → (In t xs → ⊥) → flagOf r t ≡ false
+
+-- one slot more
+module _ (xs : List ℕ) (j : ℕ) (r r′ : List ℕ) where
+  other : (b : Bool) → WithFlag r j b r′ → (t : ℕ) → (t ≡ j → ⊥) → flagOf r′ t ≡ flagOf r t
+  other b new t ne = new t ∙ ap (λ (e : Bool). cond e b (flagOf r t)) (ne-eqb t j ne)
+
+  pub unmarked-more : (b : Bool) → WithFlag r j b r′ → Unmarked xs r → Unmarked (xs ++ (j ∷ [])) r′
+  unmarked-more b new none t out =
+      other b new t (λ e. out (in-right t xs (j ∷ []) (inl e))) ∙ none t (λ m. out (in-left t xs (j ∷ []) m))
+
+  pub marked-more : (test : ℕ → Bool) → WithFlag r j (test j) r′ → Marked test xs r → Marked test (xs ++ (j ∷ [])) r′
+  marked-more test new before = record {
+    done = λ t m. go t (eqb t j) refl (in-append t xs (j ∷ []) m);
+    either = λ t. one t (eqb t j) refl (before .either t);
+  }
+    where
+      this : (t : ℕ) → eqb t j ≡ true → flagOf r′ t ≡ test t
+      this t e = new t ∙ ap (λ (b : Bool). cond b (test j) (flagOf r t)) e ∙ ap test (sym (eqb-true t j e))
+
+      go : (t : ℕ) (b : Bool) → eqb t j ≡ b → In t xs ⊎ In t (j ∷ []) → flagOf r′ t ≡ test t
+      go t true e m = this t e
+      go t false e (inl m) = other (test j) new t (eqb-false t j e) ∙ before .done t m
+      go t false e (inr (inl z)) = absurd (eqb-false t j e z)
+
+      one : (t : ℕ) (b : Bool) → eqb t j ≡ b → (flagOf r t ≡ false) ⊎ (flagOf r t ≡ test t) → (flagOf r′ t ≡ false) ⊎ (flagOf r′ t ≡ test t)
+      one t true e f = inr (this t e)
+      one t false e (inl f) = inl (other (test j) new t (eqb-false t j e) ∙ f)
+      one t false e (inr f) = inr (other (test j) new t (eqb-false t j e) ∙ f)
+
+-- a slot whose test fails has no flag as it stands
+pub marked-stands : (test : ℕ → Bool) (xs : List ℕ) (j : ℕ) (r : List ℕ) → test j ≡ false → Marked test xs r → WithFlag r j (test j) r
+marked-stands test xs j r e m = flag-stands r j (test j) (⊎-elim (λ f. f ∙ sym e) (λ f. f) (m .either j))

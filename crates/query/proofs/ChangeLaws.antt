@@ -1,0 +1,438 @@
+-- A query's list changed in place is right after the change, and so is what is kept beside it. Assumes nothing.
+use Prim.Native.Nat.{ℕ, zero, suc, _+_, _≤_, _<_}
+use native.Mathlib.Nat.{eq-or-lt-of-le}
+use native.Mathlib.Omega.{arith}
+use mathlib.Core.Path.{_≡_, refl, sym, ap, ap₂, _∙_, subst}
+use mathlib.Core.Bool.{Bool, true, false, cond, _&&_}
+use mathlib.Core.Logic.{_⊎_, inl, inr, ⊎-elim}
+use mathlib.Core.List.{List, [], _∷_, _++_, map, map-map, append-nil}
+use lib.ListN.{length, getD, take, length-map, length-take}
+use lib.Seq.{getD-take, take-all}
+use lib.Dec.{leb, ltb}
+use borrow.Author.Tests.{eq-eqb, ne-eqb, leb-true, leb-false, lt-ltb}
+use Rattle.paper.specs.Frame.{mostListed}
+use Rattle.paper.specs.Impact.{score}
+use Rattle.paper.specs.Order.{In}
+use Rattle.paper.specs.Rank as Rank
+use Rattle.paper.specs.Rank.{Entry, Line, ahead, entry, line, lines, ranking, serials}
+use Rattle.paper.specs.Sort.{select, insert}
+use Rattle.paper.specs.Sound.{Terms}
+use Rattle.paper.specs.Threshold.{thresholdSum, lastScore}
+use Rattle.paper.specs.Threshold as Threshold
+use Rattle.paper.specs.Window.{Message}
+use Rattle.paper.specs.Layout.{slots, listedIn, thresholdsIn, serialsIn, scoresIn}
+use Rattle.paper.proofs.Tests.{by-bool}
+use Rattle.paper.proofs.RankLaws.{ranking-length}
+use Rattle.paper.proofs.SortLaws.{select-length}
+use Rattle.paper.proofs.LeadLaws.{AtLeast, entryStays}
+use Rattle.paper.proofs.PlaceLaws.{Placed, placed-full, placed-short, placed-gone, placed-left, placed-come, placed-low, placed-ranking}
+use Rattle.paper.proofs.ThresholdLaws.{sum-zero, settled-again}
+use Rattle.memory.proofs.KeepsLaws.{keeps-at, keeps-part}
+use Rattle.rank.specs.declared.Ranked.{Ranked}
+use Rattle.rank.specs.Listing.{linesOf, lastOf, Tidy, grown, withouts}
+use Rattle.rank.proofs.LineLaws.{length-listed}
+use Rattle.rank.proofs.PaperLaws.{lines-last, lines-grown}
+use Rattle.rank.proofs.RemovedLaws.{without-lines}
+use Rattle.window.specs.Slot.{Slot, slot, stored, ring, window}
+use Rattle.window.proofs.SlotLaws.{slot-kept}
+use Rattle.candidates.specs.declared.Query.{Query}
+use Rattle.candidates.specs.Flags.{flagOf, inRing}
+use Rattle.candidates.specs.Match.{exceedsCells}
+use Rattle.candidates.proofs.MatchLaws.{in-ring, slot-in}
+use Rattle.query.specs.declared.Move.{Move}
+use Rattle.query.specs.declared.Touch.{Touch}
+use Rattle.query.specs.Record.{thresholds, flags, list, candidates, keptOf, Holds}
+use Rattle.query.specs.Post.{Is, LoadedQuery, LoadedThresholds, LoadedList, Over, Ready, Exact, arriving, leastOf}
+use Rattle.query.specs.Post.{KeptList, WithoutGone, WithNewest, Change, Told, SettledFrom, Retuned, Changed}
+use Rattle.query.proofs.ChosenLaws.{chosen, serials-of}
+use Rattle.query.proofs.KeptLaws.{over-kept}
+use Rattle.query.proofs.RecordLaws.{cells-same, says-same}
+use Rattle.query.proofs.SettleLaws.{Sixteen, last-positive, lt-or-ge}
+use Rattle.query.proofs.MoveLaws.{first-ones, no-others, over-after}
+
+-- where every entry scores at least a bound the last does
+last-high : (b : ℕ) (es : List Entry) → AtLeast b es → 1 ≤ length es → b ≤ lastScore es
+unfolding lastScore
+last-high b [] h l = absurd (omega arith)
+last-high b (e ∷ []) h l = h e (inl refl)
+last-high b (e ∷ x ∷ xs) h l = last-high b (x ∷ xs) (λ y m. h y (inr m)) (omega arith)
+
+in-take : {A : Type 0} (k : ℕ) (l : List A) (x : A) → In x (take k l) → In x l
+in-take zero l x i = absurd i
+in-take (suc k) [] x i = absurd i
+in-take (suc k) (y ∷ l) x (inl e) = inl e
+in-take (suc k) (y ∷ l) x (inr i) = inr (in-take k l x i)
+
+-- ---- the message that comes
+
+abbrev firstSerial : List Slot → ℕ
+firstSerial [] = 0
+firstSerial (x ∷ xs) = x .serial
+
+module _ (w : List ℕ) (newest : ℕ) {ca : List Message} (come : map (slot w) (arriving newest) ≡ map stored ca) where
+  -- there is one in the slot, or none
+  arrived : ((ltb newest slots ≡ false) × (ca ≡ [])) ⊎ ((x : Message) × (ltb newest slots ≡ true) × (ca ≡ x ∷ []) × (slot w newest .serial ≡ x .serial))
+  unfolding stored
+  arrived = go (ltb newest slots) ca refl come
+    where
+      go : (b : Bool) (ca : List Message) → ltb newest slots ≡ b → map (slot w) (cond b (newest ∷ []) []) ≡ map stored ca
+          → ((b ≡ false) × (ca ≡ [])) ⊎ ((x : Message) × (b ≡ true) × (ca ≡ x ∷ []) × (slot w newest .serial ≡ x .serial))
+      go false [] t e = inl (refl, refl)
+      go false (x ∷ ca) t e = absurd (let l = ap length e in omega arith)
+      go true [] t e = absurd (let l = ap length e in omega arith)
+      go true (x ∷ []) t e = inr (x, refl, refl, ap firstSerial e)
+      go true (x ∷ y ∷ ca) t e = absurd (let l = ap length e in omega arith)
+
+-- ---- the list
+
+module _ {w : List ℕ} {q o d o′ s newest : ℕ} {aa ga sa ca : List Message} {query : Rank.Query} (change : Change w o d o′ s newest aa ga sa ca)
+    (terms : Terms query) (holds : Holds w q o (d + s) aa query) {least : ℕ} (least-is : least ≡ leastOf (query .k) (list w q)) where
+  abbrev es : List Entry
+  es = ranking query aa
+
+  abbrev k : ℕ
+  k = query .k
+
+  lines-are : list w q ≡ lines es
+  lines-are = holds .settled .ranked
+
+  length-is : length (list w q) ≡ length es
+  length-is = ap length lines-are ∙ length-map es line
+
+  -- where it stands before the change: full, or all that scores
+  record Start (bound : ℕ) : Type 0 where
+    placed : Placed query bound least aa es
+    how : ((length es ≡ k) × (least ≡ lastScore es)) ⊎ ((length es < k) × (bound ≡ 0))
+
+  start : (bound : ℕ) × Start bound
+  start = ⊎-elim full short (eq-or-lt-of-le (ranking-length query aa))
+    where
+      full : length es ≡ k → (bound : ℕ) × Start bound
+      full e =
+          let l : least ≡ lastScore es =
+          least-is ∙ ap (λ (b : Bool). cond b (lastOf (list w q)) 1) (eq-eqb (length (list w q)) k (length-is ∙ e)) ∙ ap lastOf lines-are ∙ lines-last es in
+          let p = placed-full query aa (terms .k-least) e (last-positive query aa (omega (arith, terms .k-least))) in
+          (lastScore es, record { placed = subst (λ (n : ℕ). Placed query (lastScore es) n aa es) (sym l) p; how = inl (e, l) })
+
+      short : length es < k → (bound : ℕ) × Start bound
+      short h =
+          let l : least ≡ 1 =
+          least-is ∙ ap (λ (b : Bool). cond b (lastOf (list w q)) 1) (ne-eqb (length (list w q)) k (λ e. omega (arith, length-is))) in
+          (0, record { placed = subst (λ (n : ℕ). Placed query 0 n aa es) (sym l) (placed-short query aa h); how = inr (h, refl) })
+
+  module _ {touch : Touch} {n : ℕ} {fs : List ℕ} (told : Told w q o′ n ga ca query touch fs) {bound : ℕ} (from : Start bound) where
+    -- what left goes out
+    record Gone (rest : Ranked) : Type 0 where
+      stay : List Entry
+      shows : linesOf rest ≡ lines stay
+      placed : Placed query bound least sa stay
+      few : length stay ≤ k
+
+    gone : {l rest : Ranked} → linesOf l ≡ list w q → WithoutGone w o d (touch .went) least l rest → Gone rest
+    gone {l} {rest} loaded out = by-bool (leb least (touch .went)) some none
+      where
+        serials-are : map (λ x. x .serial) (window w o d) ≡ serials ga
+        serials-are = map-map (λ (x : Slot). x .serial) (slot w) (ring o d) ∙ serials-of w (ring o d) ga (change .gone)
+
+        some : leb least (touch .went) ≡ true → Gone rest
+        some e = record {
+          stay = select (entryStays ga) es;
+          shows =
+              out .list-is
+              ∙ ap (λ (b : Bool). cond b (withouts (map (λ x. x .serial) (window w o d)) (linesOf l)) (linesOf l)) e
+              ∙ ap₂ withouts serials-are (loaded ∙ lines-are)
+              ∙ without-lines ga es;
+          placed = placed-gone query (change .split) (change .distinct) (from .placed);
+          few = let a = select-length (entryStays ga) es in let b = ranking-length query aa in omega arith;
+        }
+
+        none : leb least (touch .went) ≡ false → Gone rest
+        none e = record {
+          stay = es;
+          shows = out .list-is ∙ ap (λ (b : Bool). cond b (withouts (map (λ x. x .serial) (window w o d)) (linesOf l)) (linesOf l)) e ∙ loaded ∙ lines-are;
+          placed =
+              placed-left query (change .split) (change .distinct) (from .placed)
+              (λ x i. let a = told .went x i in let b = leb-false least (touch .went) e in omega arith);
+          few = ranking-length query aa;
+        }
+
+    -- what came goes in
+    record Come (next : Ranked) : Type 0 where
+      all : List Entry
+      shows : linesOf next ≡ lines (take k all)
+      placed : Placed query bound least (sa ++ ca) all
+
+    module _ {rest next : Ranked} (g : Gone rest) (few : rest .count ≤ k) (new : WithNewest w newest (touch .came) k least rest next) where
+      abbrev stay : List Entry
+      stay = g .stay
+
+      -- the line of its slot
+      abbrev given : Line
+      given = record { serial = slot w newest .serial; score = touch .came }
+
+      cut : lines stay ≡ lines (take k stay)
+      cut = ap lines (sym (take-all k stay (g .few)))
+
+      -- what the code makes of it, once its tests are known
+      made : (a b : Bool) → ltb newest slots ≡ a → leb least (touch .came) ≡ b → linesOf next ≡ cond (a && b) (grown k given (linesOf rest)) (linesOf rest)
+      made a b t c = new .list-is few ∙ ap₂ (λ (x y : Bool). cond (x && y) (grown k given (linesOf rest)) (linesOf rest)) t c
+
+      none-comes : ltb newest slots ≡ false → ca ≡ [] → Come next
+      none-comes t e = record {
+        all = stay;
+        shows = made false (leb least (touch .came)) t refl ∙ g .shows ∙ cut;
+        placed = subst (λ (ms : List Message). Placed query bound least ms stay) (sym (append-nil sa) ∙ ap (λ (c : List Message). sa ++ c) (sym e)) (g .placed);
+      }
+
+      module _ (x : Message) (t : ltb newest slots ≡ true) (e : ca ≡ x ∷ []) (serial : slot w newest .serial ≡ x .serial) where
+        abbrev its : Entry
+        its = entry (score (query .terms)) x
+
+        scores : touch .came ≡ its .score
+        scores = told .came x (subst (In x) (sym e) (inl refl))
+
+        enters : leb least (touch .came) ≡ true → Come next
+        enters c =
+            let h = leb-true least (touch .came) c in
+            record {
+              all = insert ahead its stay;
+              shows =
+                  made true true t c
+                  ∙ ap₂ (λ (y : Line) (l : List Line). grown k y l) (ap₂ (λ (a b : ℕ). record { serial = a; score = b }) serial scores) (g .shows)
+                  ∙ sym (lines-grown k its stay)
+                  ∙ ap (λ (b : Bool). lines (cond b (take k (insert ahead its stay)) stay)) (lt-ltb 0 (its .score) (omega (arith, scores, g .placed .positive)));
+              placed =
+                  subst (λ (c : List Message). Placed query bound least (sa ++ c) (insert ahead its stay)) (sym e)
+                  (placed-come query x (g .placed) (omega (arith, scores)));
+            }
+
+        stays : leb least (touch .came) ≡ false → Come next
+        stays c =
+            let h = leb-false least (touch .came) c in
+            record {
+              all = stay;
+              shows = made true false t c ∙ g .shows ∙ cut;
+              placed = subst (λ (c : List Message). Placed query bound least (sa ++ c) stay) (sym e) (placed-low query x (g .placed) (omega (arith, scores)));
+            }
+
+        one-comes : Come next
+        one-comes = by-bool (leb least (touch .came)) enters stays
+
+      come : Come next
+      come = ⊎-elim (λ p. none-comes (p .0) (p .1)) (λ p. one-comes (p .0) (p .1) (p .2) (p .3)) (arrived w newest (change .come))
+
+    -- THE LAW: it is the ranking, where it is full or was all that scores
+    module _ {next : Ranked} (c : Come next) (enough : length es ≡ k → k ≤ length (linesOf next)) where
+      took : take k (c .all) ≡ ranking query (sa ++ ca)
+      took = placed-ranking query (c .placed) (⊎-elim (λ f. inl (long (f .0))) (λ f. inr (f .1)) (from .how))
+        where
+          long : length es ≡ k → k ≤ length (c .all)
+          long full =
+              let a = enough full in
+              let l = ap length (c .shows) ∙ length-map (take k (c .all)) line ∙ length-take k (c .all) in
+              omega arith
+
+      ranked-next : linesOf next ≡ lines (ranking query (sa ++ ca))
+      ranked-next = c .shows ∙ ap lines took
+
+      -- no entry scores less than what changes the list
+      high-next : AtLeast least (ranking query (sa ++ ca))
+      high-next = subst (AtLeast least) took (λ x i. c .placed .high x (in-take k (c .all) x i))
+
+      -- the thresholds that stand are safe for it
+      safe-next : length (ranking query (sa ++ ca)) ≡ k
+          → thresholdSum (query .terms) (thresholds w q (length (query .terms))) < lastScore (ranking query (sa ++ ca))
+      safe-next full =
+          ⊎-elim
+          (λ f. omega (arith, holds .settled .full (f .0) .safe, f .1, last-high least (ranking query (sa ++ ca)) high-next (omega (arith, terms .k-least))))
+          (λ f. omega (
+            arith,
+            sum-zero (query .terms) (thresholds w q (length (query .terms))) (holds .settled .short (f .0)),
+            last-positive query (sa ++ ca) (omega (arith, terms .k-least)),
+          ))
+          (from .how)
+
+      short-next : length (ranking query (sa ++ ca)) < k → (i : ℕ) → getD (thresholds w q (length (query .terms))) i 0 ≡ 0
+      short-next h =
+          ⊎-elim
+          (λ f. absurd (omega (arith, enough (f .0), ap length ranked-next, length-map (ranking query (sa ++ ca)) line)))
+          (λ f. holds .settled .short (f .0))
+          (from .how)
+
+-- ---- what the code does
+
+module _ {w : List ℕ} {q : ℕ} {m : Move} {r : Query} {hs : List ℕ} {touch : Touch} {fs : List ℕ} (query-is : LoadedQuery w q r)
+    (thresholds-are : LoadedThresholds w q hs) where
+  -- a query that was right before
+  module _ {s : ℕ} {aa ga sa ca : List Message} {query : Rank.Query} (change : Change w (m .gone) (m .departed) (m .first) s (m .newest) aa ga sa ca)
+      (counted : m .count ≡ s + length ca) (terms : Terms query) (holds : Holds w q (m .gone) (m .departed + s) aa query)
+      (told : Told w q (m .first) (m .count) ga ca query touch fs) where
+    loaded : Is r query
+    loaded = query-is .is query terms (holds .says)
+
+    the-thresholds : take (r .n) hs ≡ thresholds w q (length (query .terms))
+    the-thresholds = ap (λ (n : ℕ). take n hs) (loaded .n) ∙ first-ones holds terms thresholds-are
+
+    unused : (i : ℕ) → r .n ≤ i → getD hs i 0 ≡ 0
+    unused i h = no-others holds terms thresholds-are i (omega (arith, loaded .n))
+
+    over-next : Over w (m .first) (m .count) (sa ++ ca)
+    over-next = subst (λ (n : ℕ). Over w (m .first) n (sa ++ ca)) (sym counted) (over-after change)
+
+    exact : Exact w (m .first) (m .count) fs (query .terms) (take (r .n) hs)
+    exact = subst (Exact w (m .first) (m .count) fs (query .terms)) (sym the-thresholds) (told .exact)
+
+    -- in the window a flag is set exactly where a threshold is exceeded
+    exact-inside : (j : ℕ) → j < slots → inRing (m .first) (m .count) j ≡ true
+        → flagOf fs j ≡ exceedsCells (query .terms) (take (r .n) hs) (slot w j .cells)
+    exact-inside j h i = exact j ∙ ap (λ (b : Bool). b && exceedsCells (query .terms) (take (r .n) hs) (slot w j .cells)) i
+
+    module _ {least : ℕ} {l rest next : Ranked} (list-is : LoadedList w q l) (long : Sixteen l) (long-next : Sixteen next)
+        (out : WithoutGone w (m .gone) (m .departed) (touch .went) least l rest) (new : WithNewest w (m .newest) (touch .came) (r .k) least rest next)
+        (least-is : least ≡ leastOf (query .k) (list w q)) where
+      lines-loaded : linesOf l ≡ list w q
+      unfolding list
+      lines-loaded = rw (list-is .count-is (holds .listed-most), list-is .serials, list-is .scores)
+
+      count-loaded : l .count ≡ length (ranking query aa)
+      count-loaded =
+          sym (length-listed (l .count) (l .serials) (l .scores) (omega (arith, long .most, long .serials)) (omega (arith, long .most, long .scores)))
+          ∙ ap length (lines-loaded ∙ holds .settled .ranked)
+          ∙ length-map (ranking query aa) line
+
+      tidy-loaded : Tidy l
+      tidy-loaded =
+          let c = list-is .count-is (holds .listed-most) in
+          record { serials = rw (c, list-is .serials) (holds .no-serial); scores = rw (c, list-is .scores) (holds .no-score) }
+
+      -- the list in place, but for a full one that lost its last place
+      ready : (l .count ≡ r .k → next .count ≡ r .k) → Ready w q (m .first) (m .count) (sa ++ ca) query fs r hs next
+      ready enough = record {
+        over = over-next;
+        terms = terms;
+        says = holds .says;
+        is = loaded;
+        ranked = ranked-next change terms holds least-is told from end full;
+        tidy = new .tidy (out .tidy tidy-loaded);
+        unused = unused;
+        safe = λ e. rw the-thresholds (safe-next change terms holds least-is told from end full e);
+        short = λ h i.
+            ⊎-elim
+            (λ b. sym (getD-take (r .n) hs i 0 b) ∙ rw the-thresholds (short-next change terms holds least-is told from end full h i))
+            (λ b. unused i b)
+            (lt-or-ge i (r .n));
+        taken = λ j h i e. exact-inside j h i ∙ e;
+      }
+        where
+          from : Start change terms holds least-is (start change terms holds least-is .0)
+          from = start change terms holds least-is .1
+
+          few : rest .count ≤ query .k
+          few = let a = out .within in let b = ranking-length query aa in omega (arith, count-loaded)
+
+          end : Come change terms holds least-is told from next
+          end =
+              come change terms holds least-is told from (gone change terms holds least-is told from lines-loaded out) few
+              (subst (λ (k : ℕ). WithNewest w (m .newest) (touch .came) k least rest next) (loaded .k) new)
+
+          full : length (ranking query aa) ≡ query .k → query .k ≤ length (linesOf next)
+          full e =
+              let c = enough (count-loaded ∙ e ∙ sym (loaded .k)) in
+              let n = length-listed (next .count) (next .serials) (next .scores) (omega (arith, long-next .most, long-next .serials))
+              (omega (arith, long-next .most, long-next .scores)) in
+              omega (arith, loaded .k)
+
+  -- the two ways that a list changes
+  pub changed-settled : {least : ℕ} {w′ : List ℕ} → SettledFrom w q (m .first) (m .count) fs r hs w′ → Changed w q m touch least fs w′
+  changed-settled settled = record {
+    keeps = settled .keeps;
+    right = λ s aa ga sa ca query change counted terms holds least-is told.
+        settled .right (sa ++ ca) query (over-next change counted terms holds told) terms (holds .says) (loaded change counted terms holds told)
+        (unused change counted terms holds told) (exact-inside change counted terms holds told);
+  }
+
+  pub changed-in-place : {least : ℕ} {l rest next : Ranked} {w′ : List ℕ} → LoadedList w q l → Sixteen l → Sixteen next
+      → WithoutGone w (m .gone) (m .departed) (touch .went) least l rest → WithNewest w (m .newest) (touch .came) (r .k) least rest next
+      → (l .count ≡ r .k → next .count ≡ r .k) → Retuned w q (m .first) (m .count) fs r hs next w′ → Changed w q m touch least fs w′
+  changed-in-place list-is long long-next out new enough retuned = record {
+    keeps = retuned .keeps;
+    right = λ s aa ga sa ca query change counted terms holds least-is told.
+        retuned .right (sa ++ ca) query (ready change counted terms holds told list-is long long-next out new least-is enough)
+        (exact change counted terms holds told);
+  }
+
+-- ---- a list that nothing changes
+
+module _ {w : List ℕ} {q o d o′ s newest n : ℕ} {aa ga sa ca : List Message} {query : Rank.Query} (change : Change w o d o′ s newest aa ga sa ca)
+    (counted : n ≡ s + length ca) (terms : Terms query) (holds : Holds w q o (d + s) aa query) {least : ℕ} (least-is : least ≡ leastOf (query .k) (list w q))
+    {touch : Touch} {fs : List ℕ} (told : Told w q o′ n ga ca query touch fs) (no-more : touch .came < least) (no-less : touch .went < least)
+    {w′ : List ℕ} (kept : KeptList w q fs w′) where
+  abbrev size : ℕ
+  size = length (query .terms)
+
+  -- the ranking stands
+  same-ranking : ranking query aa ≡ ranking query (sa ++ ca)
+  same-ranking =
+      sym (take-all (query .k) (ranking query aa) (ranking-length query aa))
+      ∙ placed-ranking query (after (arrived w newest (change .come))) (⊎-elim (λ f. inl (omega (arith, f .0))) (λ f. inr (f .1)) (from .how))
+    where
+      from : Start change terms holds least-is (start change terms holds least-is .0)
+      from = start change terms holds least-is .1
+
+      stay : Placed query (start change terms holds least-is .0) least sa (ranking query aa)
+      stay = placed-left query (change .split) (change .distinct) (from .placed) (λ x i. let a = told .went x i in omega arith)
+
+      beside : {ms ms′ : List Message} → ms ≡ ms′ → Placed query (start change terms holds least-is .0) least ms (ranking query aa)
+          → Placed query (start change terms holds least-is .0) least ms′ (ranking query aa)
+      beside e p = subst (λ (l : List Message). Placed query (start change terms holds least-is .0) least l (ranking query aa)) e p
+
+      after : ((ltb newest slots ≡ false) × (ca ≡ [])) ⊎ ((x : Message) × (ltb newest slots ≡ true) × (ca ≡ x ∷ []) × (slot w newest .serial ≡ x .serial))
+          → Placed query (start change terms holds least-is .0) least (sa ++ ca) (ranking query aa)
+      after (inl p) = beside (sym (append-nil sa) ∙ ap (λ (c : List Message). sa ++ c) (sym (p .1))) stay
+      after (inr p) =
+          let e = told .came (p .0) (subst (In (p .0)) (sym (p .2)) (inl refl)) in
+          beside (ap (λ (c : List Message). sa ++ c) (sym (p .2))) (placed-low query (p .0) stay (omega arith))
+
+  same-thresholds : thresholds w′ q size ≡ thresholds w q size
+  unfolding thresholds
+  same-thresholds = keeps-part (kept .keeps) (thresholdsIn q) size (inl (let t = terms .terms .at-most in omega arith))
+
+  same-list : list w′ q ≡ list w q
+  unfolding list
+  same-list =
+      rw (
+        keeps-at (kept .keeps) (listedIn q) (inl (omega arith)),
+        keeps-part (kept .keeps) (serialsIn q) mostListed (inl (omega arith)),
+        keeps-part (kept .keeps) (scoresIn q) mostListed (inl (omega arith)),
+      )
+
+  flagged : (j : ℕ) → flagOf (flags w′ q) j ≡ (inRing o′ n j && exceedsCells (query .terms) (thresholds w′ q size) (slot w′ j .cells))
+  flagged j =
+      ap (λ (xs : List ℕ). flagOf xs j) (kept .flags-are)
+      ∙ told .exact j
+      ∙ rw same-thresholds (cells-same w w′ (query .terms) (thresholds w q size) o′ n j (λ i. let h = slot-in o′ n j i in slot-kept (kept .keeps) j (inl (omega arith))))
+
+  above : candidates w′ q o′ n ≡ serials (Threshold.candidates (query .terms) (thresholds w q size) (sa ++ ca))
+  unfolding candidates
+  above =
+      serials-of w′ (select (flagOf (flags w′ q)) (ring o′ n)) (Threshold.candidates (query .terms) (thresholds w q size) (sa ++ ca))
+      (chosen w′ o′ n (sa ++ ca)
+      (over-kept (kept .keeps) (omega arith) o′ n (change .then-below) (subst (λ (i : ℕ). Over w o′ i (sa ++ ca)) (sym counted) (over-after change)))
+      (query .terms) (thresholds w q size) (flagOf (flags w′ q))
+      (λ j k. let i = in-ring o′ n j (change .then-below) k in
+      flagged j ∙ ap₂ (λ (b : Bool) (xs : List ℕ). b && exceedsCells (query .terms) xs (slot w′ j .cells)) (i .1) same-thresholds))
+
+  pub still-holds : Holds w′ q o′ n (sa ++ ca) query
+  still-holds = record {
+    says = says-same (kept .keeps) (inl (omega arith)) (holds .says);
+    settled =
+        rw (same-thresholds, same-list)
+        (settled-again query aa (sa ++ ca) (keptOf w q o (d + s) size) (candidates w′ q o′ n) (holds .settled) same-ranking above);
+    flagged = flagged;
+    no-threshold = λ i a z. keeps-at (kept .keeps) (thresholdsIn q + i) (inl (omega arith)) ∙ holds .no-threshold i a z;
+    listed-most = rw (keeps-at (kept .keeps) (listedIn q) (inl (omega arith))) (holds .listed-most);
+    no-serial =
+        rw (keeps-at (kept .keeps) (listedIn q) (inl (omega arith)), keeps-part (kept .keeps) (serialsIn q) mostListed (inl (omega arith))) (holds .no-serial);
+    no-score =
+        rw (keeps-at (kept .keeps) (listedIn q) (inl (omega arith)), keeps-part (kept .keeps) (scoresIn q) mostListed (inl (omega arith))) (holds .no-score);
+  }

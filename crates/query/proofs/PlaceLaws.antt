@@ -1,0 +1,125 @@
+-- A query's list, read off its record and changed in place. Assumes nothing.
+use Prim.Native.Nat.{ℕ, _+_, _-_, _≤_, _<_}
+use native.Mathlib.Omega.{arith}
+use mathlib.Core.Path.{_≡_, refl, sym, ap, _∙_}
+use mathlib.Core.List.{List, map}
+use lib.ListN.{length, getD, take, drop, length-take, length-drop}
+use lib.Seq.{getD-take, getD-drop}
+use borrow.Author.Tests.{eq-eqb, ne-eqb, lt-leb, le-leb, le-ltb, lt-ltb}
+use Rattle.paper.specs.Frame.{numbers, mostListed}
+use Rattle.paper.specs.Rank.{Line}
+use Rattle.paper.specs.Layout.{slots, stateWords, listedIn, serialsIn, scoresIn, recordAt}
+use Rattle.rank.specs.declared.Ranked.{Ranked}
+use Rattle.rank.specs.Listing.{listed, linesOf, lastOf, Tidy, Kept, Removed, grown, without, withouts}
+use Rattle.rank.proofs.LineLaws.{length-listed, last-listed}
+use Rattle.window.specs.Slot.{slot, next, window}
+use Rattle.window.proofs.RingLaws.{ring-step, ring-none}
+use Rattle.query.specs.Record.{list}
+use Rattle.query.specs.Post.{Clamped, Least, WithoutGone, WithNewest}
+
+-- ---- the list in the record
+
+module _ (w : List ℕ) (q : ℕ) {n : ℕ} (long : length w ≡ stateWords) (number : q < numbers) (clamped : Clamped 0 mostListed (getD w (listedIn q) 0) n) where
+  module _ (most : getD w (listedIn q) 0 ≤ mostListed) where
+    count-is : n ≡ getD w (listedIn q) 0
+    count-is = clamped .is (omega arith) most
+
+    sixteen : (a : ℕ) → a + mostListed ≤ stateWords → length (take mostListed (drop a w)) ≡ mostListed
+    sixteen a h = simp (length-take, length-drop) (omega arith)
+
+    length-is : length (list w q) ≡ n
+    unfolding list
+    length-is =
+        length-listed (getD w (listedIn q) 0) (take mostListed (drop (serialsIn q) w)) (take mostListed (drop (scoresIn q) w))
+        (omega (arith, sixteen (serialsIn q) (omega arith))) (omega (arith, sixteen (scoresIn q) (omega arith)))
+        ∙ sym count-is
+
+    last-is : 0 < n → lastOf (list w q) ≡ getD w (scoresIn q + (n - 1)) 0
+    unfolding list
+    last-is some =
+        let c = count-is in
+        ap (λ (k : ℕ). lastOf (listedOf k)) (sym c)
+        ∙ sym (last-listed n (take mostListed (drop (serialsIn q) w)) (take mostListed (drop (scoresIn q) w)) some
+        (omega (arith, clamped .at-most, sixteen (serialsIn q) (omega arith))) (omega (arith, clamped .at-most, sixteen (scoresIn q) (omega arith))))
+        ∙ getD-take mostListed (drop (scoresIn q) w) (n - 1) 0 (omega (arith, clamped .at-most))
+        ∙ getD-drop (scoresIn q) w (n - 1) 0
+      where
+        listedOf : ℕ → List Line
+        listedOf k = listed k (take mostListed (drop (serialsIn q) w)) (take mostListed (drop (scoresIn q) w))
+
+  -- one that isn't full, and one that is
+  pub least-short : (n ≡ getD w (recordAt q) 0 → 0 < n → ⊥) → Least w q 1
+  least-short short = record {
+    is = λ query terms says most.
+        let e = says .k in
+        let p = terms .k-least in
+        rw (ne-eqb (length (list w q)) (query .k) (λ z. let l = length-is most in short (omega arith) (omega arith)));
+  }
+
+  pub least-full : n ≡ getD w (recordAt q) 0 → 0 < n → {r : ℕ} → r ≡ getD w (scoresIn q + (n - 1)) 0 → Least w q r
+  least-full full some read = record {
+    is = λ query terms says most.
+        rw (eq-eqb (length (list w q)) (query .k) (let l = length-is most in let e = says .k in omega arith)) (read ∙ sym (last-is most some));
+  }
+
+-- ---- what left goes out
+
+-- the serials of n slots from slot o on
+abbrev serialsOf : List ℕ → ℕ → ℕ → List ℕ
+serialsOf w o n = map (λ x. x .serial) (window w o n)
+
+-- what is left to be taken out of the list that stands makes it the first one without all of them
+pub record Leaving (w : List ℕ) (o d : ℕ) (l : Ranked) (j n : ℕ) (r : Ranked) : Type 0 where
+  pub within : r .count ≤ l .count
+  pub tidy : Tidy l → Tidy r
+  left : withouts (serialsOf w j n) (linesOf r) ≡ withouts (serialsOf w o d) (linesOf l)
+
+pub leaving-all : {w : List ℕ} {o d : ℕ} {l : Ranked} → Leaving w o d l o d l
+leaving-all = record { within = omega arith; tidy = λ t. t; left = refl }
+
+module _ {w : List ℕ} {o d : ℕ} {l : Ranked} {j n : ℕ} {r : Ranked} (p : Leaving w o d l j n r) where
+  pub leaving-next : {serial : ℕ} {r′ : Ranked} → 0 < n → serial ≡ slot w j .serial → Removed serial r r′ → Leaving w o d l (next j) (n - 1) r′
+  unfolding withouts
+  leaving-next {serial} {r′} some e out = record {
+    within = let a = p .within in let b = out .within in omega arith;
+    tidy = λ t. out .tidy;
+    left =
+        ap (withouts (serialsOf w (next j) (n - 1))) (out .list ∙ ap (λ (s : ℕ). without s (linesOf r)) e)
+        ∙ sym (ap (λ (js : List ℕ). withouts (map (λ x. x .serial) (map (slot w) js)) (linesOf r)) (ring-step j n some))
+        ∙ p .left;
+  }
+
+  pub leaving-end : {went least : ℕ} → n ≤ 0 → least ≤ went → WithoutGone w o d went least l r
+  unfolding withouts
+  leaving-end {went} {least} none h = record {
+    within = p .within;
+    tidy = p .tidy;
+    list-is =
+        rw (le-leb least went h)
+        (sym (ap (λ (js : List ℕ). withouts (map (λ x. x .serial) (map (slot w) js)) (linesOf r)) (ring-none j n none)) ∙ p .left);
+  }
+
+pub none-leave : {w : List ℕ} {o d went least : ℕ} {l : Ranked} → went < least → WithoutGone w o d went least l l
+none-leave {went = went} {least} h = record { within = omega arith; tidy = λ t. t; list-is = rw (lt-leb least went h) }
+
+-- ---- what came goes in
+
+module _ {w : List ℕ} {newest came k least : ℕ} {l : Ranked} (most : l .count ≤ mostListed) where
+  pub none-comes : slots ≤ newest → WithNewest w newest came k least l l
+  none-comes h = record { within = most; tidy = λ t. t; list-is = λ _. rw (le-ltb newest slots h) }
+
+  pub too-low : newest < slots → came < least → WithNewest w newest came k least l l
+  too-low h c = record { within = most; tidy = λ t. t; list-is = λ _. rw (lt-ltb newest slots h, lt-leb least came c) }
+
+  pub too-many : k < l .count → WithNewest w newest came k least l l
+  too-many h = record { within = most; tidy = λ t. t; list-is = λ few. absurd (omega arith) }
+
+  pub one-comes : {serial : ℕ} {r : Ranked} → newest < slots → least ≤ came → k ≤ mostListed → serial ≡ slot w newest .serial → Kept k serial came l r
+      → WithNewest w newest came k least l r
+  one-comes h c top e kept = record {
+    within = let a = kept .within in omega arith;
+    tidy = kept .tidy;
+    list-is = λ _.
+        rw (lt-ltb newest slots h, le-leb least came c)
+        (kept .list ∙ ap (λ (s : ℕ). grown k (record { serial = s; score = came }) (linesOf l)) e);
+  }
