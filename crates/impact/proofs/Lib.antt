@@ -1,2 +1,2 @@
 pub mod CellLaws
-pub mod Halving
+pub mod Steps
