@@ -1,5 +1,6 @@
 pub mod OpenLaws
 pub mod LineLaws
+pub mod LeastLaws
 pub mod KeptLaws
 pub mod RemovedLaws
 pub mod SumLaws

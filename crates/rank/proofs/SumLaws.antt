@@ -3,12 +3,11 @@ use Prim.Native.Nat.{ℕ, zero, suc, _+_, _*_, _≤_, _<_, suc-le-suc}
 use native.Mathlib.Nat.{le-of-suc-le-suc, not-suc-le-zero, mul-le-mul, mul-add}
 use native.Mathlib.Numerals.{add-one}
 use native.Mathlib.Omega.{arith}
-use mathlib.Core.Path.{_≡_, refl}
-use mathlib.Core.Bool.{true, false, or-true}
+use mathlib.Core.Path.{_≡_, sym}
+use mathlib.Core.Bool.{Bool, _||_, or-assoc, or-false}
 use mathlib.Core.List.{List, [], _∷_}
 use lib.ListN.{length, getD, set}
 use lib.Dec.{ltb}
-use borrow.Author.Tests.{lt-ltb, le-ltb}
 use Rattle.rank.specs.Weights.{weightLimit, valueLimit, Below, weightedSum, exceeding}
 
 -- ---- sums
@@ -54,18 +53,16 @@ sum-rise (suc n) (suc i) up (w ∷ ws) (v ∷ vs) hn hw hv =
 
 -- ---- exceeded thresholds
 
-pub exceeding-here : (n i : ℕ) (hs vs : List ℕ) → i < n → i < length hs → i < length vs → getD hs i 0 < getD vs i 0 → exceeding n hs vs ≡ true
+exceeding-suc : (i : ℕ) (hs vs : List ℕ) → i < length hs → i < length vs
+    → exceeding (suc i) hs vs ≡ (exceeding i hs vs || ltb (getD hs i 0) (getD vs i 0))
 unfolding exceeding
-exceeding-here zero i hs vs hn hh hv lt = absurd (not-suc-le-zero hn)
-exceeding-here (suc n) i [] vs hn hh hv lt = absurd (not-suc-le-zero hh)
-exceeding-here (suc n) i (h ∷ hs) [] hn hh hv lt = absurd (not-suc-le-zero hv)
-exceeding-here (suc n) zero (h ∷ hs) (v ∷ vs) hn hh hv lt = rw (lt-ltb h v lt)
-exceeding-here (suc n) (suc i) (h ∷ hs) (v ∷ vs) hn hh hv lt =
-    rw (exceeding-here n i hs vs (le-of-suc-le-suc hn) (le-of-suc-le-suc hh) (le-of-suc-le-suc hv) lt) (or-true (ltb h v))
+exceeding-suc i [] vs hh hv = absurd (not-suc-le-zero hh)
+exceeding-suc i (h ∷ hs) [] hh hv = absurd (not-suc-le-zero hv)
+exceeding-suc zero (h ∷ hs) (v ∷ vs) hh hv = or-false (ltb h v)
+exceeding-suc (suc i) (h ∷ hs) (v ∷ vs) hh hv =
+    rw (exceeding-suc i hs vs (le-of-suc-le-suc hh) (le-of-suc-le-suc hv)) (sym (or-assoc (ltb h v) (exceeding i hs vs) (ltb (getD hs i 0) (getD vs i 0))))
 
-pub exceeding-none : (n : ℕ) (hs vs : List ℕ) → ((i : ℕ) → i < n → getD vs i 0 ≤ getD hs i 0) → exceeding n hs vs ≡ false
-unfolding exceeding
-exceeding-none zero hs vs f = refl
-exceeding-none (suc n) [] vs f = refl
-exceeding-none (suc n) (h ∷ hs) [] f = refl
-exceeding-none (suc n) (h ∷ hs) (v ∷ vs) f = rw (le-ltb h v (f 0 (omega arith))) (exceeding-none n hs vs (λ i h. f (suc i) (suc-le-suc h)))
+-- a turn of the loop of `exceeds`
+pub exceeding-turn : (i : ℕ) (hs vs : List ℕ) → i < length hs → i < length vs → {a b : Bool} → a ≡ exceeding i hs vs
+    → b ≡ (a || ltb (getD hs i 0) (getD vs i 0)) → b ≡ exceeding (i + 1) hs vs
+exceeding-turn i hs vs hh hv e f = rw (f, e, add-one) (sym (exceeding-suc i hs vs hh hv))
