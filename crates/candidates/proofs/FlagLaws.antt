@@ -27,7 +27,7 @@ bit-of (suc w) v (suc k) h =
     let e : w - 1 - k ≡ suc w - 1 - suc k = omega arith in
     bit-of w v k (le-of-suc-le-suc h) ∙ ap (λ (n : ℕ). odd (v / 2 ^ n)) e
 
-no-bit : (w k : ℕ) → getD (bits w 0) k false ≡ false
+pub no-bit : (w k : ℕ) → getD (bits w 0) k false ≡ false
 unfolding bits odd
 no-bit zero k = refl
 no-bit (suc w) zero = rw (zero-div (2 ^ w))

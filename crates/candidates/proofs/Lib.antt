@@ -4,3 +4,4 @@ pub mod TermLaws
 pub mod WalkLaws
 pub mod MatchLaws
 pub mod RowLaws
+pub mod FlaggedLaws

@@ -1,17 +1,17 @@
 -- Slots picked, the table of places, and rows of impacts: one law for each way that a turn goes. Assumes nothing.
 use Prim.Native.Nat.{ℕ, zero, suc, _+_, _-_, _*_, _%_, _≤_, _<_, suc-le-suc}
-use native.Mathlib.Nat.{mul-zero, add-zero}
+use native.Mathlib.Nat.{mul-zero, add-zero, not-suc-le-zero, eq-or-lt-of-le, le-of-suc-le-suc}
 use native.Mathlib.Numerals.{add-one}
 use native.Mathlib.Omega.{arith}
 use mathlib.Core.Path.{_≡_, refl, sym, ap, ap₂, _∙_}
-use mathlib.Core.Bool.{Bool, true, false, cond}
+use mathlib.Core.Bool.{Bool, true, false, cond, _||_}
 use mathlib.Core.Logic.{_⊎_, inl, inr, ⊎-elim}
 use mathlib.Core.List.{List, [], _∷_, _++_, map, append-nil}
 use lib.ListN.{length, getD, set, take, drop, length-set, drop-of-length-le}
 use lib.Seq.{getD-set-same, getD-set-other, getD-take, take-set-le, take-suc-set, drop-cons, append-snoc, length-take-le}
 use lib.Dec.{eqb, ltb}
 use borrow.Author.Count.{below-more}
-use borrow.Author.Tests.{eqb-true, eqb-false, eq-eqb, ne-eqb, le-ltb, ltb-true, ltb-false}
+use borrow.Author.Tests.{eqb-true, eqb-false, eq-eqb, ne-eqb, le-ltb, lt-ltb}
 use Rattle.paper.specs.Frame.{mostTerms}
 use Rattle.paper.specs.Layout.{slots}
 use Rattle.paper.specs.Order.{In}
@@ -22,19 +22,20 @@ use Rattle.paper.specs.Threshold.{exceedsBy}
 use Rattle.paper.specs.Write.{side-by-side}
 use Rattle.impact.specs.Cell.{cellTerm, cellImpact, lookup, RisingTerms}
 use Rattle.wire.specs.Bits.{val}
+use Rattle.paper.proofs.Tests.{by-bool, or-false}
 use Rattle.paper.proofs.SortLaws.{in-append, in-left, in-right}
 use Rattle.rank.specs.Listing.{grown}
 use Rattle.window.specs.Slot.{slot, next, ring}
 use Rattle.window.specs.Table.{termLimit}
 use Rattle.window.specs.Rows.{rowWidth, found, touches, Narrow, LookedAt}
 use Rattle.window.proofs.RingLaws.{ring-step, ring-none}
-use Rattle.window.proofs.RowLaws.{found-none}
 use Rattle.candidates.specs.declared.Query.{Query}
 use Rattle.candidates.specs.Flags.{flagOf}
 use Rattle.candidates.specs.Post.{Rising, WithFlag, termsOf, lineIn, grows}
 use Rattle.candidates.specs.Match.{scoreCells, exceedsCells}
+use Rattle.candidates.proofs.MatchLaws.{select-agree}
 use Rattle.candidates.proofs.WalkLaws.{flag-stands}
-use Rattle.candidates.specs.Rows.{Picked, Known, Placed, RowOf, Having, Looked}
+use Rattle.candidates.specs.Rows.{Known, Placed, RowOf, Having, Gathered, Looked, among, shares}
 
 -- a list whose place p is filled after those before it
 pub filled-more : (f : ℕ → ℕ) (xs : List ℕ) (p x : ℕ) → p < length xs → ((k : ℕ) → k < p → getD xs k 0 ≡ f k) → x ≡ f p
@@ -44,18 +45,18 @@ filled-more f xs p x long all here =
 
 -- ---- slots picked
 
--- m are picked, and the n from slot j on are left
-pub record Picking (fs : List ℕ) (o count : ℕ) (picked : List ℕ) (m j n : ℕ) : Type 0 where
+-- m are picked of those that pass the test, and the n from slot j on are left
+pub record Picking (test : ℕ → Bool) (o count : ℕ) (picked : List ℕ) (m j n : ℕ) : Type 0 where
   pub within : m + n ≤ count
   pub long : length picked ≡ slots
   pub below : (i : ℕ) → i < m → getD picked i 0 < slots
-  pub left : take m picked ++ select (flagOf fs) (ring j n) ≡ select (flagOf fs) (ring o count)
+  pub left : take m picked ++ select test (ring j n) ≡ select test (ring o count)
 
-pub picking-none : (fs : List ℕ) (o count : ℕ) (picked : List ℕ) → length picked ≡ slots → Picking fs o count picked 0 o count
-picking-none fs o count picked l = record { within = omega arith; long = l; below = λ i h. absurd (omega arith); left = refl }
+pub picking-none : (test : ℕ → Bool) (o count : ℕ) (picked : List ℕ) → length picked ≡ slots → Picking test o count picked 0 o count
+picking-none test o count picked l = record { within = omega arith; long = l; below = λ i h. absurd (omega arith); left = refl }
 
-module _ (fs : List ℕ) (o count : ℕ) (picked : List ℕ) (m j n : ℕ) (some : 0 < n) (before : Picking fs o count picked m j n) where
-  pub picking-more : m < slots → j < slots → flagOf fs j ≡ true → Picking fs o count (set picked m j) (m + 1) (next j) (n - 1)
+module _ (test : ℕ → Bool) (o count : ℕ) (picked : List ℕ) (m j n : ℕ) (some : 0 < n) (before : Picking test o count picked m j n) where
+  picking-more : m < slots → j < slots → test j ≡ true → Picking test o count (set picked m j) (m + 1) (next j) (n - 1)
   unfolding select
   picking-more room low e = record {
     within = let h = before .within in omega arith;
@@ -63,7 +64,7 @@ module _ (fs : List ℕ) (o count : ℕ) (picked : List ℕ) (m j n : ℕ) (some
     below = λ i h. this i (eqb i m) refl h;
     left =
         rw (add-one, take-suc-set picked m j (omega (arith, before .long)))
-        (append-snoc (take m picked) j (select (flagOf fs) (ring (next j) (n - 1))) ∙ rw (ring-step j n some, e) at (before .left));
+        (append-snoc (take m picked) j (select test (ring (next j) (n - 1))) ∙ rw (ring-step j n some, e) at (before .left));
   }
     where
       this : (i : ℕ) (b : Bool) → eqb i m ≡ b → i < m + 1 → getD (set picked m j) i 0 < slots
@@ -72,23 +73,19 @@ module _ (fs : List ℕ) (o count : ℕ) (picked : List ℕ) (m j n : ℕ) (some
           let ne = eqb-false i m q in
           rw (getD-set-other picked m i j 0 ne) (before .below i (omega arith))
 
-  pub picking-skipped : flagOf fs j ≡ false → Picking fs o count picked m (next j) (n - 1)
+  picking-skipped : test j ≡ false → Picking test o count (set picked m j) m (next j) (n - 1)
   unfolding select
   picking-skipped e = record {
     within = let h = before .within in omega arith;
-    long = before .long;
-    below = before .below;
-    left = rw (ring-step j n some, e) at (before .left);
+    long = length-set picked m j ∙ before .long;
+    below = λ i h. rw (getD-set-other picked m i j 0 (λ z. omega arith)) (before .below i h);
+    left = rw (take-set-le m picked m j (omega arith)) (rw (ring-step j n some, e) at (before .left));
   }
 
-pub picking-all : (fs : List ℕ) (o count : ℕ) (picked : List ℕ) (m j n : ℕ) → n ≤ 0 → Picking fs o count picked m j n → Picked o count fs picked m
-unfolding select
-picking-all fs o count picked m j n none p = record {
-  within = let h = p .within in omega arith;
-  long = p .long;
-  below = p .below;
-  right = sym (append-nil (take m picked)) ∙ rw (ring-none j n none) at (p .left);
-}
+  -- by the digit of what was seen
+  pub picking-turn : (b : Bool) → m < slots → j < slots → test j ≡ b → Picking test o count (set picked m j) (m + val b) (next j) (n - 1)
+  picking-turn true room low e = picking-more room low e
+  picking-turn false room low e = rw (add-zero m) (picking-skipped e)
 
 -- ---- the table of places
 
@@ -166,150 +163,99 @@ val-most false = omega arith
 abbrev pub touchedIn : List ℕ → List ℕ → ℕ → Bool
 touchedIn w places j = touches places (slot w j .cells)
 
--- of the first i of m slots, those with a term that has a place
-pub record Keeping (w places js : List ℕ) (m : ℕ) (picked : List ℕ) (kept i : ℕ) : Type 0 where
-  pub within : kept ≤ i
-  pub long : length picked ≡ slots
-  pub below : (k : ℕ) → k < kept → getD picked k 0 < slots
-  pub rest : (k : ℕ) → i ≤ k → getD picked k 0 ≡ getD js k 0
-  pub left : take kept picked ++ select (touchedIn w places) (drop i (take m js)) ≡ select (touchedIn w places) (take m js)
+-- a term has a place where it is one of the query's
+place-among : (m : ℕ) (ts : List ℕ) (t x : ℕ) → x ≤ m → ((p : ℕ) → p < m → eqb x (suc p) ≡ eqb t (getD ts p 0)) → ltb 0 x ≡ among m ts t
+unfolding among
+place-among zero ts t x h e = le-ltb 0 x h
+place-among (suc m) ts t x h e =
+    rw (← e m (omega arith))
+    (by-bool (eqb x (suc m))
+    (λ z. let y = eqb-true x (suc m) z in rw z (lt-ltb 0 x (omega arith)))
+    (λ z. let ne = eqb-false x (suc m) z in rw z (place-among m ts t x (omega arith) (λ p l. e p (omega arith)))))
 
-pub keeping-none : (w places js : List ℕ) (m : ℕ) → length js ≡ slots → Keeping w places js m js 0 0
-keeping-none w places js m l = record { within = omega arith; long = l; below = λ k h. absurd (omega arith); rest = λ k h. refl; left = refl }
+touches-shares : (q : Query) (places : List ℕ) → Placed q places → Rising q → Known q → (cs : List ℕ) → touches places cs ≡ shares q cs
+unfolding touches shares
+touches-shares q places table r k [] = refl
+touches-shares q places table r k (c ∷ cs) =
+    ap₂ _||_
+    (place-among (q .n) (q .terms) (cellTerm c) (getD places (cellTerm c) 0) (table .low (cellTerm c)) (λ p l. table .right r k (cellTerm c) p l))
+    (touches-shares q places table r k cs)
 
-module _ (w places js : List ℕ) (m : ℕ) (picked : List ℕ) (kept i j : ℕ) (more : i < m) (room : m ≤ slots) (all : length js ≡ slots) (this : j ≡ getD js i 0)
-    (before : Keeping w places js m picked kept i) where
-  -- the slots left begin with this one
-  first-left : drop i (take m js) ≡ j ∷ drop (i + 1) (take m js)
-  first-left =
-      drop-cons (take m js) i 0 (omega (arith, length-take-le m js (omega arith)))
-      ∙ ap₂ (λ (x k : ℕ). x ∷ drop k (take m js)) (getD-take m js i 0 more ∙ sym this) (sym (add-one i))
+pub gathered-all : (w places : List ℕ) (q : Query) (o count : ℕ) (picked : List ℕ) (m j n : ℕ) → n ≤ 0 → Placed q places
+    → Picking (touchedIn w places) o count picked m j n → Gathered w q o count picked m
+unfolding select
+gathered-all w places q o count picked m j n none table p = record {
+  within = let h = p .within in omega arith;
+  long = p .long;
+  below = p .below;
+  right = λ r k.
+      sym (append-nil (take m picked))
+      ∙ rw (ring-none j n none) at (p .left)
+      ∙ select-agree (touchedIn w places) (λ j. shares q (slot w j .cells)) (ring o count) (λ j m. touches-shares q places table r k (slot w j .cells));
+}
 
-  pub keeping-more : j < slots → touchedIn w places j ≡ true → Keeping w places js m (set picked kept j) (kept + 1) (i + 1)
-  unfolding select
-  keeping-more low e = record {
-    within = let h = before .within in omega arith;
-    long = length-set picked kept j ∙ before .long;
-    below = λ k h. these k (eqb k kept) refl h;
-    rest = λ k h. let l = before .within in getD-set-other picked kept k j 0 (λ z. omega arith) ∙ before .rest k (omega arith);
-    left =
-        rw (add-one, take-suc-set picked kept j (omega (arith, before .long, before .within)))
-        (append-snoc (take kept picked) j (select (touchedIn w places) (drop (i + 1) (take m js))) ∙ rw (first-left, e) at (before .left));
-  }
-    where
-      these : (k : ℕ) (b : Bool) → eqb k kept ≡ b → k < kept + 1 → getD (set picked kept j) k 0 < slots
-      these k true q h = rw (eqb-true k kept q, getD-set-same picked kept j 0 (omega (arith, before .long, before .within))) low
-      these k false q h =
-          let ne = eqb-false k kept q in
-          rw (getD-set-other picked kept k j 0 ne) (before .below k (omega arith))
-
-  pub keeping-skipped : touchedIn w places j ≡ false → Keeping w places js m (set picked kept j) kept (i + 1)
-  unfolding select
-  keeping-skipped e = record {
-    within = let h = before .within in omega arith;
-    long = length-set picked kept j ∙ before .long;
-    below = λ k h. rw (getD-set-other picked kept k j 0 (λ z. omega arith)) (before .below k h);
-    rest = λ k h. let l = before .within in getD-set-other picked kept k j 0 (λ z. omega arith) ∙ before .rest k (omega arith);
-    left = rw (take-set-le kept picked kept j (omega arith)) (rw (first-left, e) at (before .left));
-  }
-
-  -- by the digit of what was seen
-  pub keeping-turn : (b : Bool) → j < slots → touchedIn w places j ≡ b → Keeping w places js m (set picked kept j) (kept + val b) (i + 1)
-  keeping-turn true low e = keeping-more low e
-  keeping-turn false low e = rw (add-zero kept) (keeping-skipped e)
-
--- the first i slots have their rows, and no place of the other rows has anything but the first of the next one
+-- the first i slots have their rows, and the other rows have nothing yet
 pub record Looking (w js : List ℕ) (q : Query) (rows : List ℕ) (i : ℕ) : Type 0 where
   pub narrow : Narrow rows
   pub right : Rising q → Known q → (k : ℕ) → k < i → RowOf (slot w (getD js k 0) .cells) q rows k
-  pub blank : (x : ℕ) → rowWidth * i < x → getD rows x 0 ≡ 0
+  pub blank : (x : ℕ) → rowWidth * i ≤ x → getD rows x 0 ≡ 0
 
 pub looking-none : (w js : List ℕ) (q : Query) (rows : List ℕ) → ((x : ℕ) → getD rows x 0 ≡ 0) → Looking w js q rows 0
 looking-none w js q rows z = record { narrow = λ x. omega (arith, z x); right = λ r t k h. absurd (omega arith); blank = λ x h. z x }
 
-module _ (w js : List ℕ) (q : Query) (places rows rows′ : List ℕ) (i j : ℕ) (b : Bool) (few : q .n ≤ mostTerms) (table : Placed q places)
-    (new : LookedAt (slot w j .cells) places (rowWidth * i) rows rows′ b) (before : Looking w js q rows i) where
-  pub looking-more : i < length js → Looking w (set js i j) q rows′ (i + 1)
-  looking-more inside = record {
-    narrow = new .narrow (before .narrow);
-    right = λ r t.
-        below-more (λ (k : ℕ). RowOf (slot w (getD (set js i j) k 0) .cells) q rows′ k) i
-        (λ k h p l.
-        new .before (rowWidth * k + 1 + p) (omega arith)
-        ∙ before .right r t k h p l
-        ∙ ap (λ (x : ℕ). lookup (getD (q .terms) p 0) (slot w x .cells)) (sym (getD-set-other js i k j 0 (λ e. omega arith)))) (here r t);
-    blank = λ x h. new .after x (omega arith) ∙ before .blank x (omega arith);
-  }
-    where
-      here : Rising q → Known q → RowOf (slot w (getD (set js i j) i 0) .cells) q rows′ i
-      here r t p l =
-          let n : rowWidth * i + 1 + p ≡ rowWidth * i + suc p = omega arith in
-          ap (λ (x : ℕ). getD rows′ x 0) n
-          ∙ new .is (suc p) (omega arith)
-          ∙ ap (found places (suc p) (slot w j .cells)) (before .blank (rowWidth * i + suc p) (omega arith))
-          ∙ found-lookup q places table r t p l (slot w j .cells)
-          ∙ ap (λ (x : ℕ). lookup (getD (q .terms) p 0) (slot w x .cells)) (sym (getD-set-same js i j 0 inside))
+pub looking-more : (w js : List ℕ) (q : Query) (places rows rows′ : List ℕ) (i : ℕ) → q .n ≤ mostTerms → Placed q places
+    → LookedAt (slot w (getD js i 0) .cells) places (rowWidth * i) rows rows′ → Looking w js q rows i → Looking w js q rows′ (i + 1)
+looking-more w js q places rows rows′ i few table new before = record {
+  narrow = new .narrow (before .narrow);
+  right = λ r t.
+      below-more (λ (k : ℕ). RowOf (slot w (getD js k 0) .cells) q rows′ k) i
+      (λ k h p l. new .before (rowWidth * k + 1 + p) (omega arith) ∙ before .right r t k h p l) (here r t);
+  blank = λ x h. new .after x (omega arith) ∙ before .blank x (omega arith);
+}
+  where
+    here : Rising q → Known q → RowOf (slot w (getD js i 0) .cells) q rows′ i
+    here r t p l =
+        let n : rowWidth * i + 1 + p ≡ rowWidth * i + suc p = omega arith in
+        ap (λ (x : ℕ). getD rows′ x 0) n
+        ∙ new .is (suc p) (omega arith)
+        ∙ ap (found places (suc p) (slot w (getD js i 0) .cells)) (before .blank (rowWidth * i + suc p) (omega arith))
+        ∙ found-lookup q places table r t p l (slot w (getD js i 0) .cells)
 
-  -- a message without a term that has a place leaves the row as it was
-  pub looking-skipped : touchedIn w places j ≡ false → Looking w (set js i j) q rows′ i
-  looking-skipped e = record {
-    narrow = new .narrow (before .narrow);
-    right = λ r t k h p l.
-        new .before (rowWidth * k + 1 + p) (omega arith)
-        ∙ before .right r t k h p l
-        ∙ ap (λ (x : ℕ). lookup (getD (q .terms) p 0) (slot w x .cells)) (sym (getD-set-other js i k j 0 (λ e. omega arith)));
-    blank = λ x h. any x h (ltb x (rowWidth * i + rowWidth)) refl;
-  }
-    where
-      same : (x : ℕ) → rowWidth * i < x → x < rowWidth * i + rowWidth → getD rows′ x 0 ≡ 0
-      same x h l =
-          let n : rowWidth * i + suc (x - rowWidth * i - 1) ≡ x = omega arith in
-          ap (λ (y : ℕ). getD rows′ y 0) (sym n)
-          ∙ new .is (suc (x - rowWidth * i - 1)) (omega arith)
-          ∙ found-none places (slot w j .cells) (x - rowWidth * i - 1) (getD rows (rowWidth * i + suc (x - rowWidth * i - 1)) 0) e
-          ∙ ap (λ (y : ℕ). getD rows y 0) n
-          ∙ before .blank x h
-
-      any : (x : ℕ) → rowWidth * i < x → (b : Bool) → ltb x (rowWidth * i + rowWidth) ≡ b → getD rows′ x 0 ≡ 0
-      any x h true e = same x h (ltb-true x (rowWidth * i + rowWidth) e)
-      any x h false e = new .after x (ltb-false x (rowWidth * i + rowWidth) e) ∙ before .blank x h
-
-  pub looking-turn : (d : Bool) → i < length js → touchedIn w places j ≡ d → Looking w (set js i j) q rows′ (i + val d)
-  looking-turn true inside e = looking-more inside
-  looking-turn false inside e = rw (add-zero i) (looking-skipped e)
-
-pub looked-all : (w places js : List ℕ) (q : Query) (m : ℕ) (picked rows : List ℕ) (kept i : ℕ) → m ≤ i → i ≤ m → m ≤ slots → length js ≡ slots
-    → length rows ≡ rowWidth * slots → Placed q places → Keeping w places js m picked kept i → Looking w picked q rows kept
-    → Looked w (take m js) q m kept picked rows
-unfolding select
-looked-all w places js q m picked rows kept i h h′ room all wide table k l = record {
-  within = omega (arith, k .within);
-  long = k .long;
-  rows-long = wide;
-  below = k .below;
-  having = record {
-    test = touchedIn w places;
-    kept =
-        sym (append-nil (take kept picked))
-        ∙ rw none at (k .left);
-    silent = λ r t j e p o. sym (found-lookup q places table r t p o (slot w j .cells)) ∙ found-none places (slot w j .cells) p 0 e;
-  };
+pub looked-all : (w js : List ℕ) (q : Query) (m : ℕ) (rows : List ℕ) (i : ℕ) → m ≤ i → m ≤ length js → length rows ≡ rowWidth * slots
+    → Looking w js q rows i → Looked w (take m js) q rows
+looked-all w js q m rows i h room wide l = record {
+  long = wide;
   right = record {
     narrow = l .narrow;
     right = λ r t x y p o.
-        let n = length-take-le kept picked (omega (arith, k .within, k .long)) in
-        let c : x < kept = omega arith in
-        rw (getD-take kept picked x 0 c) (l .right r t x c p o);
+        let n = length-take-le m js room in
+        rw (getD-take m js x 0 (omega arith)) (l .right r t x (omega arith) p o);
   };
 }
-  where
-    short : length (take m js) ≤ i
-    short = omega (arith, length-take-le m js (omega arith))
-
-    none : drop i (take m js) ≡ []
-    none = drop-of-length-le (take m js) short
 
 -- ---- slots without one of the query's terms
+
+-- a message that has none of the terms has impact 0 in each
+among-none : (n : ℕ) (ts : List ℕ) (t : ℕ) → among n ts t ≡ false → (p : ℕ) → p < n → eqb t (getD ts p 0) ≡ false
+unfolding among
+among-none zero ts t e p h = absurd (not-suc-le-zero h)
+among-none (suc n) ts t e p h =
+    let o = or-false (eqb t (getD ts n 0)) (among n ts t) e in
+    ⊎-elim (λ z. rw z (o .0)) (λ l. among-none n ts t (o .1) p l) (eq-or-lt-of-le (le-of-suc-le-suc h))
+
+shares-none : (q : Query) (cs : List ℕ) → shares q cs ≡ false → (p : ℕ) → p < q .n → lookup (getD (q .terms) p 0) cs ≡ 0
+unfolding shares lookup
+shares-none q [] e p h = refl
+shares-none q (c ∷ cs) e p h =
+    let o = or-false (among (q .n) (q .terms) (cellTerm c)) (shares q cs) e in
+    rw (among-none (q .n) (q .terms) (cellTerm c) (o .0) p h) (shares-none q cs (o .1) p h)
+
+pub having-shares : {w : List ℕ} {q : Query} {js js′ : List ℕ} → js′ ≡ select (λ j. shares q (slot w j .cells)) js → Having w q js js′
+having-shares {w} {q} e = record {
+  test = λ j. shares q (slot w j .cells);
+  kept = e;
+  silent = λ r k j z p h. shares-none q (slot w j .cells) z p h;
+}
 
 -- what is 0 in the terms scores nothing, and exceeds no threshold
 score-silent : (n : ℕ) (ts ws cs : List ℕ) → ((p : ℕ) → p < n → lookup (getD ts p 0) cs ≡ 0) → scoreCells (side-by-side n ts ws) cs ≡ 0
@@ -330,7 +276,7 @@ exceeds-silent (suc n) (t ∷ ts) (v ∷ ws) (h ∷ hs) cs z =
     rw (z 0 (omega arith), le-ltb h 0 (omega arith)) (exceeds-silent n ts ws hs cs (λ p l. z (suc p) (suc-le-suc l)))
 
 -- a line of score 0 isn't listed
-pub grown-none : (k : ℕ) (e : Line) (l : List Line) → e .score ≡ 0 → grown k e l ≡ l
+grown-none : (k : ℕ) (e : Line) (l : List Line) → e .score ≡ 0 → grown k e l ≡ l
 unfolding grown
 grown-none k e l z = rw z
 

@@ -29,7 +29,7 @@ use Rattle.paper.proofs.PlaceLaws.{Placed, placed-full, placed-short, placed-go
 use Rattle.paper.proofs.ThresholdLaws.{sum-zero, settled-again}
 use Rattle.memory.proofs.KeepsLaws.{keeps-at, keeps-part}
 use Rattle.rank.specs.declared.Ranked.{Ranked}
-use Rattle.rank.specs.Listing.{linesOf, lastOf, Tidy, grown, withouts}
+use Rattle.rank.specs.Listing.{linesOf, lastOf, leastOf, Tidy, grown, withouts}
 use Rattle.rank.proofs.LineLaws.{length-listed}
 use Rattle.rank.proofs.PaperLaws.{lines-last, lines-grown}
 use Rattle.rank.proofs.RemovedLaws.{without-lines}
@@ -42,7 +42,7 @@ use Rattle.candidates.proofs.MatchLaws.{in-ring, slot-in}
 use Rattle.query.specs.declared.Move.{Move}
 use Rattle.query.specs.declared.Touch.{Touch}
 use Rattle.query.specs.Record.{thresholds, flags, list, candidates, keptOf, Holds}
-use Rattle.query.specs.Post.{Is, LoadedQuery, LoadedThresholds, LoadedList, Over, Ready, Exact, arriving, leastOf}
+use Rattle.query.specs.Post.{Is, LoadedQuery, LoadedThresholds, LoadedList, Over, Ready, Exact, arriving}
 use Rattle.query.specs.Post.{KeptList, WithoutGone, WithNewest, Change, Told, SettledFrom, Retuned, Changed}
 use Rattle.query.proofs.ChosenLaws.{chosen, serials-of}
 use Rattle.query.proofs.KeptLaws.{over-kept}

@@ -4,7 +4,7 @@ use Prim.Native.Nat.{ℕ, zero, suc, _*_, _/_, _%_, _≤_, _<_, suc-le-suc}
 use native.Mathlib.Nat.{mul-zero, mul-le-mul-right, eq-or-lt-of-le, not-suc-le-zero, le-of-suc-le-suc}
 use native.Mathlib.Omega.{arith}
 use mathlib.Core.Path.{_≡_, refl, sym, ap, ap₂, _∙_, subst}
-use mathlib.Core.Bool.{Bool, true, false, _&&_, _||_, false≢true}
+use mathlib.Core.Bool.{Bool, true, false, _&&_, _||_, true≢false, false≢true}
 use mathlib.Core.Logic.{_⊎_, inl, inr, ⊎-elim}
 use mathlib.Core.List.{List, [], _∷_, map, map-map}
 use lib.ListN.{length, getD, take, replicate, getD-replicate, length-map, length-take, List·getD-eq-default}
@@ -255,9 +255,13 @@ module _ {w : List ℕ} {q o n : ℕ} {fs : List ℕ} {r : Query} {hs hs′ : Li
       no-score = rw (kept .count, kept .scores) (ready .tidy .scores);
     }
 
--- the same of the slots by another name
-pub having-of : {w : List ℕ} {r : Query} {js js′ xs : List ℕ} → js ≡ xs → Having w r js js′ → Having w r xs js′
-having-of {w} {r} {js} {js′} e h = subst (λ (ys : List ℕ). Having w r ys js′) e h
+-- all of the slots picked
+pub having-picked : {w : List ℕ} {r : Query} {js xs : List ℕ} → js ≡ xs → Having w r xs js
+having-picked {w} {r} {js} {xs} e = record {
+  test = λ j. true;
+  kept = e ∙ sym (select-all (λ j. true) xs (λ j m. refl));
+  silent = λ x k j z. absurd (true≢false z);
+}
 
 -- of the messages looked at, which are those flagged that have one of the terms, those that exceed them
 module _ {w : List ℕ} {q o n : ℕ} {fs : List ℕ} {r : Query} {hs hs′ : List ℕ} {l : Ranked} (range : InRange r) (long : Sixteen l) (eight : length hs ≡ 8)
@@ -394,12 +398,19 @@ all-flagged j h =
     let ones : bits 32 4294967295 ≡ replicate 32 true = refl in
     rw (getD-replicate {A = ℕ} 9 (j / 32) 4294967295 0 (omega arith), ones) (getD-replicate 32 (j % 32) true false (omega arith))
 
+all-picked : (o n : ℕ) → o < slots → select (flagOf allFlags) (ring o n) ≡ ring o n
+all-picked o n ho = select-all (flagOf allFlags) (ring o n) (λ j m. all-flagged j (in-ring o n j ho m .0))
+
+-- of all slots, those with one of the terms
+pub having-all : {w : List ℕ} {r : Query} {js : List ℕ} (o n : ℕ) → o < slots → Having w r (ring o n) js → Having w r (select (flagOf allFlags) (ring o n)) js
+having-all {w} {r} {js} o n ho h = subst (λ (xs : List ℕ). Having w r xs js) (sym (all-picked o n ho)) h
+
 pub shown-all : {w : List ℕ} {o n : ℕ} {ms : List Message} {qs : List Pair} {hs : List ℕ} → o < slots → Over w o n ms → Shown w o n allFlags ms qs hs
 shown-all {w} {o} {n} {ms} ho over = record {
   test = λ m. true;
   covers = λ m e. refl;
   shows =
-      ap (map (slot w)) (select-all (flagOf allFlags) (ring o n) (λ j m. all-flagged j (in-ring o n j ho m .0)))
+      ap (map (slot w)) (all-picked o n ho)
       ∙ over .shows
       ∙ sym (ap (map stored) (select-all (λ m. true) ms (λ m i. refl)));
 }

@@ -18,7 +18,7 @@ use Rattle.paper.specs.Sound.{Distinct, Messages, Terms}
 use Rattle.memory.specs.Keeps.{Keeps}
 use Rattle.impact.specs.Cell.{RisingTerms}
 use Rattle.rank.specs.declared.Ranked.{Ranked}
-use Rattle.rank.specs.Listing.{linesOf, lastOf, Tidy, grown, withouts}
+use Rattle.rank.specs.Listing.{linesOf, lastOf, leastOf, Tidy, grown, withouts}
 use Rattle.rank.specs.Weights.{weightLimit, weightedSum, Raised}
 use Rattle.window.specs.Slot.{slot, stored, ring, window}
 use Rattle.window.specs.Table.{TableOf}
@@ -128,23 +128,26 @@ pub record Shown (w : List ℕ) (first count : ℕ) (fs : List ℕ) (ms : List M
   pub covers : (m : Message) → exceeds qs hs (m .pairs) ≡ true → test m ≡ true
   pub shows : map (slot w) (select (flagOf fs) (ring first count)) ≡ map stored (select test ms)
 
--- the messages looked at are those flagged that have one of the query's terms
-pub record Finished (w : List ℕ) (q : ℕ) (js rows : List ℕ) (r : Query) (hs : List ℕ) (list : Ranked) (w′ : List ℕ) : Type 0 where
+-- Thresholds that were raised beside the list are stored with it, and those of the messages looked at that exceed one of them as candidates. Looked at
+-- are those flagged, all or those that have one of the query's terms.
+pub record Finished (w : List ℕ) (q : ℕ) (js rows : List ℕ) (r : Query) (hs′ : List ℕ) (list : Ranked) (w′ : List ℕ) : Type 0 where
   pub keeps : Keeps (listedIn q) (recordAt q + recordWords) w w′
-  pub right : (first count : ℕ) (fs : List ℕ) (ms : List Message) (query : Rank.Query) → first < slots → Having w r (select (flagOf fs) (ring first count)) js
-      → Rows w js r rows → Ready w q first count ms query fs r hs list → Holds w′ q first count ms query
+  pub right : (first count : ℕ) (fs hs : List ℕ) (ms : List Message) (query : Rank.Query) → first < slots → Having w r (select (flagOf fs) (ring first count)) js
+      → Rows w js r rows → length hs ≡ mostTerms → Lifted r hs list hs′ → Ready w q first count ms query fs r hs list → Holds w′ q first count ms query
 
 -- the same where the flagged messages have yet to be looked at
-pub record SiftedFrom (w : List ℕ) (q first count : ℕ) (fs : List ℕ) (r : Query) (hs : List ℕ) (list : Ranked) (w′ : List ℕ) : Type 0 where
+pub record SiftedFrom (w : List ℕ) (q first count : ℕ) (fs : List ℕ) (r : Query) (hs′ : List ℕ) (list : Ranked) (w′ : List ℕ) : Type 0 where
   pub keeps : Keeps (listedIn q) (recordAt q + recordWords) w w′
-  pub right : (ms : List Message) (query : Rank.Query) → Ready w q first count ms query fs r hs list → Holds w′ q first count ms query
+  pub right : (hs : List ℕ) (ms : List Message) (query : Rank.Query) → length hs ≡ mostTerms → Lifted r hs list hs′
+      → Ready w q first count ms query fs r hs list → Holds w′ q first count ms query
 
--- settled from the flagged messages, or nothing is written
-pub record Attempted (w : List ℕ) (q first count : ℕ) (fs : List ℕ) (r : Query) (hs : List ℕ) (b : Bool) (w′ : List ℕ) : Type 0 where
+-- settled from the messages picked, or nothing is written
+pub record Attempted (w : List ℕ) (q : ℕ) (js : List ℕ) (r : Query) (hs : List ℕ) (b : Bool) (w′ : List ℕ) : Type 0 where
   pub keeps : Keeps (listedIn q) (recordAt q + recordWords) w w′
   pub certain : sumOf r hs ≡ 0 → b ≡ true
   pub refused : b ≡ false → w′ ≡ w
-  pub right : b ≡ true → (ms : List Message) (query : Rank.Query) → Over w first count ms → Terms query → Says w q query → Is r query
+  pub right : b ≡ true → (first count : ℕ) (fs : List ℕ) (ms : List Message) (query : Rank.Query) → first < slots
+      → Having w r (select (flagOf fs) (ring first count)) js → Over w first count ms → Terms query → Says w q query → Is r query
       → ((i : ℕ) → r .n ≤ i → getD hs i 0 ≡ 0) → Shown w first count fs ms (query .terms) (take (r .n) hs)
       → ((j : ℕ) → j < slots → inRing first count j ≡ true → exceedsCells (query .terms) (take (r .n) hs) (slot w j .cells) ≡ true → flagOf fs j ≡ true)
       → Holds w′ q first count ms query
@@ -153,7 +156,7 @@ pub record Attempted (w : List ℕ) (q first count : ℕ) (fs : List ℕ) (r : Q
 abbrev pub Exact : List ℕ → ℕ → ℕ → List ℕ → List Pair → List ℕ → Type 0
 Exact w first count fs qs hs = (j : ℕ) → flagOf fs j ≡ (inRing first count j && exceedsCells qs hs (slot w j .cells))
 
--- as `SiftedFrom`, where the flags are exact for the thresholds already
+-- the thresholds are raised beside a list that is right; the flags are exact for those before
 pub record Retuned (w : List ℕ) (q first count : ℕ) (fs : List ℕ) (r : Query) (hs : List ℕ) (list : Ranked) (w′ : List ℕ) : Type 0 where
   pub keeps : Keeps (listedIn q) (recordAt q + recordWords) w w′
   pub right : (ms : List Message) (query : Rank.Query) → Ready w q first count ms query fs r hs list
@@ -183,10 +186,6 @@ pub record MovedFlags (w : List ℕ) (q : ℕ) (m : Move) (comes : Bool) (r : Li
   pub rest : List ℕ
   pub left : Without (flags w q) (m .gone) (m .departed) rest
   pub is : (j : ℕ) → flagOf r j ≡ cond (ltb (m .newest) slots && eqb j (m .newest)) comes (flagOf rest j)
-
--- the least score by which a message changes a list of up to k: that of its last line where it is full, else any
-abbrev pub leastOf : ℕ → List Line → ℕ
-leastOf k l = cond (eqb (length l) k) (lastOf l) 1
 
 pub record Least (w : List ℕ) (q r : ℕ) : Type 0 where
   pub is : (query : Rank.Query) → Terms query → Says w q query → getD w (listedIn q) 0 ≤ mostListed → r ≡ leastOf (query .k) (list w q)

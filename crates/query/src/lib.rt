@@ -141,7 +141,7 @@ fn raised(query: Query, thresholds: [u32; 8], list: Ranked) -> [u32; 8]
     [0u32; 8]
 }
 
-// The thresholds raised, candidates no longer above them dropped, and all of it stored: of messages that have been looked at.
+// Of messages that have been looked at, those above one of the raised thresholds become the candidates, and all of it is stored.
 fn finish(
     state: &mut [u8],
     q: usize,
@@ -149,18 +149,17 @@ fn finish(
     m: usize,
     rows: &[u16],
     query: Query,
-    thresholds: [u32; 8],
+    raised: [u32; 8],
     list: Ranked,
 )
     requires { ⌜ (length (now state) ≡ stateLength) × (q < numbers) × (m ≤ slots) × (length (now picked) ≡ slots) × (length (now rows) ≡ rowWidth * slots) ⌝ }
     requires { ⌜ ((i : ℕ) → i < m → getD (now picked) i 0 < slots) ⌝ }
     requires { ⌜ InRange query ⌝ }
-    requires { ⌜ (list .count ≤ mostListed) × ((i : ℕ) → getD thresholds i 0 ≤ top) ⌝ }
-    ensures { λ _. ⌜ Finished (words (now (state .entry))) q (take m (now (picked .entry))) (now (rows .entry)) query thresholds list (words (now (state .exit))) ⌝ }
+    requires { ⌜ list .count ≤ mostListed ⌝ }
+    ensures { λ _. ⌜ Finished (words (now (state .entry))) q (take m (now (picked .entry))) (now (rows .entry)) query raised list (words (now (state .exit))) ⌝ }
 {
-    let next = raised(query, thresholds, list);
-    let kept = candidates::sifted_rows(picked, m, rows, query, next);
-    store(state, q, next, list, kept);
+    let kept = candidates::sifted_rows(picked, m, rows, query, raised);
+    store(state, q, raised, list, kept);
 }
 
 // Whether no message that isn't among those ranked could be listed: a message that exceeds no threshold scores at most their sum.
@@ -180,30 +179,29 @@ fn is_safe(query: Query, thresholds: [u32; 8], list: Ranked) -> bool
     sum < rank::last_score(list)
 }
 
-// The query is settled from the flagged messages, each looked at once; not where a message that isn't flagged could be listed.
+// The query is settled from the picked messages, each looked at once; not where a message that isn't picked could be listed.
 fn settled(
     state: &mut [u8],
     q: usize,
-    first: usize,
-    count: usize,
-    flags: [u32; 9],
+    picked: &[u16],
+    m: usize,
     query: Query,
     thresholds: [u32; 8],
 ) -> bool
-    requires { ⌜ (length (now state) ≡ stateLength) × (q < numbers) × (first < slots) × (count < slots) ⌝ }
+    requires { ⌜ (length (now state) ≡ stateLength) × (q < numbers) × (m ≤ slots) × (length (now picked) ≡ slots) ⌝ }
+    requires { ⌜ ((i : ℕ) → i < m → getD (now picked) i 0 < slots) ⌝ }
     requires { ⌜ InRange query ⌝ }
     requires { ⌜ ((i : ℕ) → getD thresholds i 0 ≤ top) ⌝ }
-    ensures { λ r. ⌜ Attempted (words (now (state .entry))) q first count flags query thresholds r (words (now (state .exit))) ⌝ }
+    ensures { λ r. ⌜ Attempted (words (now (state .entry))) q (take m (now (picked .entry))) query thresholds r (words (now (state .exit))) ⌝ }
 {
-    let mut picked = [0u16; layout::SLOTS];
     let mut rows = [0u16; candidates::ROWS];
-    let flagged = candidates::flagged_slots(first, count, flags, &mut picked);
-    let m = candidates::look(state, &mut picked, flagged, query, &mut rows);
-    let list = candidates::ranked_rows(state, &picked, m, &rows, query);
+    candidates::look(state, picked, m, query, &mut rows);
+    let list = candidates::ranked_rows(state, picked, m, &rows, query);
     if !is_safe(query, thresholds, list) {
         return false;
     }
-    finish(state, q, &picked, m, &rows, query, thresholds, list);
+    let next = raised(query, thresholds, list);
+    finish(state, q, picked, m, &rows, query, next, list);
     true
 }
 
@@ -213,7 +211,9 @@ fn refill(state: &mut [u8], q: usize, first: usize, count: usize, query: Query)
     requires { ⌜ InRange query ⌝ }
     ensures { λ _. ⌜ Refilled (words (now (state .entry))) q first count query (words (now (state .exit))) ⌝ }
 {
-    let _done = settled(state, q, first, count, [4294967295u32; 9], query, [0u32; 8]);
+    let mut picked = [0u16; layout::SLOTS];
+    let m = candidates::having(state, first, count, query, &mut picked);
+    let _done = settled(state, q, &picked, m, query, [0u32; 8]);
 }
 
 // The query is settled from its candidates, or from the whole window where they aren't enough.
@@ -231,7 +231,9 @@ fn settle(
     requires { ⌜ ((i : ℕ) → getD thresholds i 0 ≤ top) ⌝ }
     ensures { λ _. ⌜ SettledFrom (words (now (state .entry))) q first count flags query thresholds (words (now (state .exit))) ⌝ }
 {
-    if !settled(state, q, first, count, flags, query, thresholds) {
+    let mut picked = [0u16; layout::SLOTS];
+    let m = candidates::flagged_slots(first, count, flags, &mut picked);
+    if !settled(state, q, &picked, m, query, thresholds) {
         refill(state, q, first, count, query);
     }
 }
@@ -400,7 +402,7 @@ fn same(a: [u32; 8], b: [u32; 8]) -> bool
     is
 }
 
-// The thresholds raised beside a list that is right; the candidates are looked at, those that the flags say.
+// The thresholds are raised to these beside a list that is right; the candidates are looked at, those that the flags say.
 fn sift(
     state: &mut [u8],
     q: usize,
@@ -408,19 +410,19 @@ fn sift(
     count: usize,
     flags: [u32; 9],
     query: Query,
-    thresholds: [u32; 8],
+    raised: [u32; 8],
     list: Ranked,
 )
     requires { ⌜ (length (now state) ≡ stateLength) × (q < numbers) × (first < slots) × (count < slots) ⌝ }
     requires { ⌜ InRange query ⌝ }
-    requires { ⌜ (list .count ≤ mostListed) × ((i : ℕ) → getD thresholds i 0 ≤ top) ⌝ }
-    ensures { λ _. ⌜ SiftedFrom (words (now (state .entry))) q first count flags query thresholds list (words (now (state .exit))) ⌝ }
+    requires { ⌜ list .count ≤ mostListed ⌝ }
+    ensures { λ _. ⌜ SiftedFrom (words (now (state .entry))) q first count flags query raised list (words (now (state .exit))) ⌝ }
 {
     let mut picked = [0u16; layout::SLOTS];
     let mut rows = [0u16; candidates::ROWS];
-    let flagged = candidates::flagged_slots(first, count, flags, &mut picked);
-    let m = candidates::look(state, &mut picked, flagged, query, &mut rows);
-    finish(state, q, &picked, m, &rows, query, thresholds, list);
+    let m = candidates::flagged_slots(first, count, flags, &mut picked);
+    candidates::look(state, &picked, m, query, &mut rows);
+    finish(state, q, &picked, m, &rows, query, raised, list);
 }
 
 // The list is right, and the flags are for these thresholds: they are raised, and candidates looked at only where that changes one.
@@ -443,7 +445,7 @@ fn retune(
     if same(next, thresholds) {
         store(state, q, thresholds, list, flags);
     } else {
-        sift(state, q, first, count, flags, query, thresholds, list);
+        sift(state, q, first, count, flags, query, next, list);
     }
 }
 

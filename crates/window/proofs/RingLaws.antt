@@ -40,6 +40,13 @@ ring-append o (suc a) b h =
     let z : suc a + b ≡ suc (a + b) = omega arith in
     rw z (ap (λ (l : List ℕ). o ∷ l) (ring-append (next o) a b (omega arith) ∙ ap (λ (p : ℕ). ring (next o) a ++ ring p b) e))
 
+-- a window that goes around: the slots up to the last one, and those from slot 0 on
+pub ring-cut : (o n : ℕ) → o < slots → slots ≤ o + n → ring o n ≡ ring o (slots - o) ++ ring 0 (o + n - slots)
+ring-cut o n h k =
+    let e : n ≡ (slots - o) + (o + n - slots) = omega arith in
+    let z : (o + (slots - o)) % slots ≡ 0 = omega arith in
+    ap (ring o) e ∙ ring-append o (slots - o) (o + n - slots) h ∙ ap (λ (p : ℕ). ring o (slots - o) ++ ring p (o + n - slots)) z
+
 -- the last
 pub ring-last : (o n : ℕ) → o < slots → ring o (suc n) ≡ ring o n ++ (((o + n) % slots) ∷ [])
 unfolding ring

@@ -20,17 +20,16 @@ found places p (c ∷ cs) d = cond (eqb (getD places (cellTerm c) 0) p) (cellImp
 -- whether one of the cells has a term whose place isn't 0
 unfoldable pub touches : List ℕ → List ℕ → Bool
 touches places [] = false
-touches places (c ∷ cs) = touches places cs || ltb 0 (getD places (cellTerm c) 0)
+touches places (c ∷ cs) = ltb 0 (getD places (cellTerm c) 0) || touches places cs
 
 -- no value of the rows is more than an impact can be
 abbrev pub Narrow : List ℕ → Type 0
 Narrow rows = (i : ℕ) → getD rows i 0 < 2 ^ impactWidth
 
--- the cells are put into the row from `at` on, and nothing else changes; whether one of them has a place
-pub record LookedAt (cs places : List ℕ) (at : ℕ) (rows rows′ : List ℕ) (has : Bool) : Type 0 where
+-- the cells are put into the row from `at` on, and nothing else changes
+pub record LookedAt (cs places : List ℕ) (at : ℕ) (rows rows′ : List ℕ) : Type 0 where
   pub long : length rows′ ≡ length rows
   pub is : (p : ℕ) → p < rowWidth → getD rows′ (at + p) 0 ≡ found places p cs (getD rows (at + p) 0)
   pub before : (i : ℕ) → i < at → getD rows′ i 0 ≡ getD rows i 0
   pub after : (i : ℕ) → at + rowWidth ≤ i → getD rows′ i 0 ≡ getD rows i 0
   pub narrow : Narrow rows → Narrow rows′
-  pub had : has ≡ touches places cs

@@ -1,6 +1,6 @@
 // The window: a ring of message slots in the state memory, and the cursor that says which of them are in force.
 ghost use mathlib.Core.Path.{_≡_};
-ghost use Prim.Native.Nat.{ℕ, _+_, _*_, _%_, _^_, _<_, _≤_, max};
+ghost use Prim.Native.Nat.{ℕ, _+_, _*_, _-_, _%_, _^_, _<_, _≤_, max};
 ghost use mathlib.Core.Bool.{_||_};
 ghost use lib.ListN.{length, getD};
 ghost use Rattle.paper.specs.Frame.{termWidth, countWidth, mostPairs, mostTerms};
@@ -12,7 +12,7 @@ ghost use Rattle.memory.specs.Keeps.{Stored};
 ghost use Rattle.impact.specs.Cell.{cellsOf, lookup};
 ghost use Rattle.window.specs.Slot.{slot, sizeAt, window, next, holdsSerial};
 ghost use Rattle.window.specs.Table.{termLimit, Raised, RaisedBy};
-ghost use Rattle.window.specs.Rows.{rowWidth, LookedAt};
+ghost use Rattle.window.specs.Rows.{rowWidth, touches, LookedAt};
 ghost use Rattle.window.specs.Cursor.{Loaded, PutCursor, Advanced, Roomy, Written};
 use impact::Impact;
 use paper::MOST_PAIRS;
@@ -123,16 +123,39 @@ pub fn either(a: bool, b: bool) -> bool
     if a { true } else { b }
 }
 
+fn wide(x: u8) -> u32
+    ensures { λ r. ⌜ (r ≡ x) × (r < 256) ⌝ }
+{
+    x as u32
+}
+
+// Whether a term of the message in slot j has a place other than 0.
+pub fn has_place(state: &[u8], j: usize, places: &[u8]) -> bool
+    requires { ⌜ (length (now state) ≡ stateLength) × (j < slots) × (length (now places) ≡ termLimit) ⌝ }
+    ensures { λ r. ⌜ r ≡ touches (now (places .entry)) (slot (words (now (state .entry))) j .cells) ⌝ }
+{
+    let cells = layout::RING + layout::SLOT * j + layout::CELLS;
+    let size = size_in(state, j);
+    let mut sum: u32 = 0;
+    let mut i: usize = 0;
+    while i < size {
+        let cell = memory::get(state, cells + i);
+        let term = (cell / impact::TERM_FACTOR) as usize;
+        sum += wide(places[term]);
+        i += 1;
+    }
+    0 < sum
+}
+
 // The impacts of the message in slot j go into the row from place `at` on: that of a term to the term's place in the row, and those of all terms
 // that the table gives place 0 to the first one, which nobody reads: so no cell is tested. From the last cell to the first, so that the first
-// cell of a term counts whatever memory holds. Whether one of the terms has a place other than 0.
-pub fn look_at(state: &[u8], j: usize, places: &[u8], rows: &mut [u16], at: usize) -> bool
+// cell of a term counts whatever memory holds.
+pub fn look_at(state: &[u8], j: usize, places: &[u8], rows: &mut [u16], at: usize)
     requires { ⌜ (length (now state) ≡ stateLength) × (j < slots) × (length (now places) ≡ termLimit) × (at + rowWidth ≤ length (now rows)) ⌝ }
     requires { ⌜ ((t : ℕ) → getD (now places) t 0 ≤ mostTerms) ⌝ }
-    ensures { λ r. ⌜ LookedAt (slot (words (now (state .entry))) j .cells) (now (places .entry)) at (now (rows .entry)) (now (rows .exit)) r ⌝ }
+    ensures { λ _. ⌜ LookedAt (slot (words (now (state .entry))) j .cells) (now (places .entry)) at (now (rows .entry)) (now (rows .exit)) ⌝ }
 {
     let base = layout::RING + layout::SLOT * j + layout::CELLS;
-    let mut has = false;
     let mut i = size_in(state, j);
     while 0 < i {
         i -= 1;
@@ -140,9 +163,7 @@ pub fn look_at(state: &[u8], j: usize, places: &[u8], rows: &mut [u16], at: usiz
         let term = (cell / impact::TERM_FACTOR) as usize;
         let place = places[term] as usize;
         rows[at + place] = (cell % impact::COUNT_FACTOR) as u16;
-        has = either(has, 0 < place);
     }
-    has
 }
 
 pub struct Cursor {
@@ -214,21 +235,31 @@ pub fn put_cursor(state: &mut [u8], clock: u32, oldest: usize, count: usize)
     memory::put(state, layout::COUNT, count as u32);
 }
 
-// Whether one of the `count` messages from slot `first` on has the serial.
+// Whether one of the messages in the slots from `first` up to `end` has the serial. All are looked at: no slot's test waits for another's.
+fn serial_among(state: &[u8], first: usize, end: usize, serial: u32) -> bool
+    requires { ⌜ (length (now state) ≡ stateLength) × (end ≤ slots) ⌝ }
+    ensures { λ r. ⌜ r ≡ holdsSerial serial (window (words (now (state .entry))) first (end - first)) ⌝ }
+{
+    let mut found = false;
+    let mut j = first;
+    while j < end {
+        found = either(found, serial_in(state, j) == serial);
+        j += 1;
+    }
+    found
+}
+
+// Whether one of the `count` messages from slot `first` on has the serial: those up to the last slot, and those from slot 0 on.
 pub fn has_serial(state: &[u8], first: usize, count: usize, serial: u32) -> bool
-    requires { ⌜ (length (now state) ≡ stateLength) × (first < slots) ⌝ }
+    requires { ⌜ (length (now state) ≡ stateLength) × (first < slots) × (count < slots) ⌝ }
     ensures { λ r. ⌜ r ≡ holdsSerial serial (window (words (now (state .entry))) first count) ⌝ }
 {
-    let mut j = first;
-    let mut left = count;
-    while 0 < left {
-        if serial_in(state, j) == serial {
-            return true;
-        }
-        j = following(j);
-        left -= 1;
+    let end = first + count;
+    if end <= layout::SLOTS {
+        return serial_among(state, first, end, serial);
     }
-    false
+    let late = serial_among(state, first, layout::SLOTS, serial);
+    either(late, serial_among(state, 0, end - layout::SLOTS, serial))
 }
 
 // The message's cells, from word `at` on.

@@ -35,8 +35,11 @@ returns c =
 
 returns-2 : tie.Need-returns-2
 returns-2 c =
-    let f = c .before .before .sift .ensures in
-    record { keeps = f .keeps; right = λ ms query ready exact. f .right ms query ready }
+    let t = c .before .before in
+    let r = t .before .before .before .before in
+    let s = r .before .before in
+    let f = t .sift .ensures in
+    record { keeps = f .keeps; right = λ ms query ready exact. f .right (s .args .thresholds) ms query (eight s) (r .raised .ensures) ready }
 
 pub retune-spec : {M : Type 1} → statement M
 retune-spec =
@@ -45,7 +48,7 @@ retune-spec =
     (λ c κs. c .before .pre .1)
     (λ c κs. search needs)
     (λ c κs. search needs)
-    (λ c κs. let p = c .before .before .before .before .before .pre in (search needs, p .1))
+    (λ c κs. let p = c .before .before .before .before .before .pre in (search needs, (p .1 .0, p .1 .1 .0)))
     (λ c. search needs)
     returns
     (λ c. search needs)

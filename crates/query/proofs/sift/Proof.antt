@@ -2,7 +2,7 @@
 use native.Mathlib.Omega.{arith}
 use borrow.Author.Needs.{needs}
 use Rattle.candidates.proofs.FlagLaws.{zero-at}
-use Rattle.query.proofs.SettleLaws.{having-of}
+use Rattle.query.proofs.SettleLaws.{having-picked}
 use Rattle.query.proofs.sift.Statement.{statement}
 use Rattle.query.proofs.sift.Tie as tie
 
@@ -15,26 +15,26 @@ look-requires c κs =
 
 finish-requires : tie.Need-finish-requires
 finish-requires c κs =
-    let l = c .before .before .before .before .before in
+    let l = c .before .before .before .before in
     let g = l .before .before .before .before .before in
     let looked = l .look .ensures in
     let p = g .before .before .before .pre in (
-      (search needs, search needs, omega (arith, g .flagged-slots .ensures .within, looked .within), looked .long, looked .rows-long),
-      (looked .below, p .1),
+      (search needs, search needs, omega (arith, g .flagged-slots .ensures .within), g .flagged-slots .ensures .long, looked .long),
+      (g .flagged-slots .ensures .below, p .1),
     )
 
 returns : tie.Need-returns
 returns c =
     let t = c .before .before in
-    let l = t .before .before .before .before .before .before in
+    let l = t .before .before .before .before .before in
     let g = l .before .before .before .before .before in
     let a = g .before .before .before .args in
     let looked = l .look .ensures in
     record {
       keeps = t .finish .ensures .keeps;
-      right = λ ms query ready.
-          t .finish .ensures .right (a .first) (a .count) (a .flags) ms query (omega arith)
-          (having-of (g .flagged-slots .ensures .right) (looked .having)) (looked .right) ready;
+      right = λ hs ms query long lifted ready.
+          t .finish .ensures .right (a .first) (a .count) (a .flags) hs ms query (omega arith)
+          (having-picked (g .flagged-slots .ensures .right)) (looked .right) long lifted ready;
     }
 
 pub sift-spec : {M : Type 1} → statement M

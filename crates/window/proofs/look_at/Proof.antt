@@ -16,10 +16,10 @@ use Rattle.window.proofs.look_at.Tie as tie
 
 -- the cells from the i-th on are in the row
 abbrev Inv-loop : tie.InvT-loop
-Inv-loop state j places rows₀ at base has₀ i₀ rows has i = (i ≤ sizeAt (words state) j) × LookedAt (drop i (slot (words state) j .cells)) places at rows₀ rows has
+Inv-loop state j places rows₀ at base i₀ rows i = (i ≤ sizeAt (words state) j) × LookedAt (drop i (slot (words state) j .cells)) places at rows₀ rows
 
 abbrev μ-loop : tie.MeasureT-loop
-μ-loop state j places rows₀ at base has₀ i₀ rows has i = i
+μ-loop state j places rows₀ at base i₀ rows i = i
 
 loop-holds : tie.Need-loop-holds Inv-loop μ-loop
 loop-holds c =
@@ -44,16 +44,15 @@ low c =
 
 loop-again : tie.Need-loop-again Inv-loop μ-loop
 loop-again c =
-    let g = c .before .before in
+    let g = c .before in
     let l = g .before .before in
     let a = l .before .before .before .before .before .args in
     let cells = slot (words (a .state .now)) (a .j) .cells in
     let s = slot-size (a .state .now) (a .j) (omega arith) (omega arith) in
     let e = slot-cell (a .state .now) (a .j) (omega arith) (omega arith) (l .loop .i - 1) (omega arith) in (
       omega arith,
-      rw (c .either .ensures)
-          (looked-more cells (a .places .now) (a .at) (a .rows .now) (l .loop .rows) (l .loop .has) (l .loop .i) (g .get .result) (omega arith) (low g .0) (omega arith)
-          (omega arith) (e ∙ sym (g .get .ensures)) (l .loop .inv .1)),
+      looked-more cells (a .places .now) (a .at) (a .rows .now) (l .loop .rows) (l .loop .i) (g .get .result) (omega arith) (low g .0) (omega arith)
+          (omega arith) (e ∙ sym (g .get .ensures)) (l .loop .inv .1),
     )
 
 returns : tie.Need-returns Inv-loop μ-loop
@@ -82,7 +81,6 @@ look-at-spec =
     (λ c. let h = low (c .before) in omega arith)
     (λ c. let h = low (c .before) in omega arith)
     (λ c. let h = low (c .before) in omega arith)
-    (λ c κs. search needs)
     (λ c. search needs)
     loop-again
     (λ c. c .before .loop .inv .1 .long)
