@@ -328,3 +328,16 @@ fn serials() {
     assert_eq!(p.hand(&message(111, 8)).number, 0);
     assert_eq!(p.hand(&message(112, 7)).number, 0);
 }
+
+/// A serial in force is found wherever the window stands in the ring, around its end too: the newest, the oldest, and some between.
+#[test]
+fn serials_around_the_ring() {
+    let mut p = Passage::new(200, 65535);
+    let message = |time, serial| Frame::Message { time, serial, pairs: vec![(5, 1)] }.bytes();
+    for i in 0..600 {
+        assert_eq!(p.hand(&message(i, i)).number, 0);
+        for back in [0, 1, 70, 130, 198, 199].into_iter().filter(|back| *back <= i) {
+            assert_eq!(p.hand(&message(i, i - back)).number, 8, "the serial of message {}, after message {i}", i - back);
+        }
+    }
+}
