@@ -7,7 +7,7 @@ use lib.ListN.{length, getD, take, drop}
 use lib.Dec.{eqb, leb, ltb}
 use Rattle.paper.specs.Frame.{mostTerms, mostListed, Pair}
 use Rattle.paper.specs.Impact.{top, score}
-use Rattle.paper.specs.Rank.{Line, lines, ranking}
+use Rattle.paper.specs.Rank.{lines, ranking}
 use Rattle.paper.specs.Rank as Rank
 use Rattle.paper.specs.Window.{Message}
 use Rattle.paper.specs.Order.{In, Split}

@@ -129,7 +129,7 @@ fn wide(x: u8) -> u32
     x as u32
 }
 
-// Whether a term of the message in slot j has a place other than 0.
+// Whether a term of the message in slot j has a place other than 0, by the sum of the places: no cell is tested.
 pub fn has_place(state: &[u8], j: usize, places: &[u8]) -> bool
     requires { ⌜ (length (now state) ≡ stateLength) × (j < slots) × (length (now places) ≡ termLimit) ⌝ }
     ensures { λ r. ⌜ r ≡ touches (now (places .entry)) (slot (words (now (state .entry))) j .cells) ⌝ }

@@ -1,13 +1,12 @@
 -- `has_place` meets its contract: the answer is that of the sum so far and of the cells from the i-th on. Assumes nothing.
-use Prim.Native.Nat.{_*_, _≤_, _<_, _-_}
+use Prim.Native.Nat.{_*_, _≤_, _-_}
 use native.Mathlib.Omega.{arith}
 use mathlib.Core.Path.{_≡_, refl, sym, _∙_}
 use mathlib.Core.Bool.{_||_}
-use lib.ListN.{length, drop, getD}
+use lib.ListN.{drop}
 use lib.Dec.{ltb}
 use borrow.Author.Needs.{needs}
 use Rattle.memory.specs.Words.{words}
-use Rattle.impact.specs.Cell.{cellTerm}
 use Rattle.window.specs.Slot.{slot, sizeAt}
 use Rattle.window.specs.Rows.{touches}
 use Rattle.window.proofs.SlotLaws.{size-most, slot-size, slot-cell}
