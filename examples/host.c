@@ -34,7 +34,7 @@ static const struct fields passage[] = {
     {FENNELRAKE_MESSAGE, 30, 3, 0, 0, 2, {9, 40}, {1, 1}},
     /* the fourth message is one more than can be in force: serial 1 leaves */
     {FENNELRAKE_MESSAGE, 40, 4, 0, 0, 2, {5, 6}, {1, 2}},
-    /* the clock moves on to 120, and serial 2, of time 20, is 100 seconds old and leaves */
+    /* the clock moves on to 120: serial 2, of time 20, is 100 seconds old and in its last second */
     {FENNELRAKE_TICK, 120, 0, 0, 0, 0, {0}, {0}},
     /* a time before the clock: refused as 7, and nothing changes */
     {FENNELRAKE_MESSAGE, 119, 9, 0, 0, 1, {5}, {1}},

@@ -46,7 +46,7 @@ extern "C" {
 /* ---- ranges */
 
 #define FENNELRAKE_MOST_MESSAGES 256      /* N, the messages in force, is 1 to this */
-#define FENNELRAKE_LONGEST_LIFE 65535     /* T, the seconds that a message is in force, is 1 to this */
+#define FENNELRAKE_LONGEST_LIFE 65535     /* T, the greatest age in seconds of a message in force, is 1 to this */
 #define FENNELRAKE_SERIALS 1048576        /* serials are below this */
 #define FENNELRAKE_QUERIES 32             /* query numbers are below this */
 #define FENNELRAKE_LIST_PLACES 16         /* k, the length of a list, is 1 to this */
@@ -87,8 +87,8 @@ enum {
 /* ---- the calls */
 
 /*
- * Makes the state memory a fresh engine: no message, no query, clock 0. At most `capacity` messages (N) are in force at once, each for `life`
- * seconds (T). What the memory held before doesn't matter. Writes the whole state memory.
+ * Makes the state memory a fresh engine: no message, no query, clock 0. At most `capacity` messages (N) are in force at once, each up to and
+ * including the age (clock less arrival time) of `life` seconds (T). What the memory held before doesn't matter. Writes the whole state memory.
  *
  * Refusals, in this order:
  *   11  capacity not 1 to 256, or life not 1 to 65535
@@ -97,9 +97,9 @@ enum {
 uint32_t fennelrake_start(uint8_t *state, size_t state_length, uint32_t capacity, uint32_t life);
 
 /*
- * Hands a frame to the engine. Accepted, its time becomes the clock, and messages that have reached the age of T seconds leave. Then a message
- * joins (the oldest leaving where N are in force), a query is registered, or one is dropped; a tick does no more. Every list is up to date when
- * the call returns.
+ * Hands a frame to the engine. Accepted, its time becomes the clock, and messages older than T seconds leave: one of age T is still in force.
+ * Then a message joins (the oldest leaving where N are in force), a query is registered, or one is dropped; a tick does no more. Every list is up to
+ * date when the call returns.
  *
  * Writes FENNELRAKE_FRAME_ANSWER_SIZE bytes: the marks and the departures. Bit q of the marks (worth 2 to the q) is set exactly where the frame
  * registers or drops query q, or a message that arrives or leaves has, in one of the query's terms, an impact above the threshold that the engine

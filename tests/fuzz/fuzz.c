@@ -217,7 +217,7 @@ static void check_window(const uint8_t *s, const uint8_t *f, uint32_t departures
     HOLD(word(s, 0) == word(old, 0) && word(s, 1) == word(old, 1));
     HOLD(time >= word(old, CLOCK) && word(s, CLOCK) == time);
     HOLD(word(s, OLDEST) < PLACES && count <= word(s, 0));
-    while (aged < held && time - word(message(old, aged), TIME) >= word(s, 1))
+    while (aged < held && time - word(message(old, aged), TIME) > word(s, 1))
         aged++;
     HOLD(departures == aged + (arrived && held - aged == word(s, 0)));
     HOLD(count == held - departures + arrived);

@@ -46,7 +46,7 @@ static void put_frame(uint32_t *clock, uint32_t life)
         fennelrake_put_term(terms, pairs, (uint16_t)(term < 3 * apart - 1 ? term : FENNELRAKE_TERMS - 1));
         amounts[pairs++] = (uint8_t)(1 + (below(16) == 0 && kind == FENNELRAKE_MESSAGE ? below(255) : below(4)));
     }
-    *clock += below(24) == 0 ? life - below(2) : below(3);
+    *clock += below(24) == 0 ? life + below(2) : below(3);
     time = *clock - (below(32) == 0);
     serial = below(below(8) == 0 ? FENNELRAKE_SERIALS : 64);
     number = below(below(3) == 0 ? FENNELRAKE_QUERIES : 6);

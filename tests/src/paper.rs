@@ -72,7 +72,7 @@ impl Log {
     /// The places of the messages in force at a time.
     pub fn in_force_at(&self, time: u32) -> Vec<usize> {
         let first = self.messages.len().saturating_sub(self.capacity);
-        (first..self.messages.len()).filter(|&i| time - self.messages[i].time < self.life).collect()
+        (first..self.messages.len()).filter(|&i| time - self.messages[i].time <= self.life).collect()
     }
 
     pub fn in_force(&self) -> Vec<&Message> {

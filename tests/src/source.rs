@@ -1,6 +1,6 @@
 //! Random passages made to suit a log: besides ordinary frames, ones refused under each number from 1 to 10 in turn, frames handed again, serials
-//! used again, also of a message that leaves by the frame, twins of messages, and times on which messages leave. What is met so doesn't depend on
-//! the seed.
+//! used again, also of a message in its last second or that leaves by the frame, twins of messages, and times on which messages leave. What is met
+//! so doesn't depend on the seed.
 
 use crate::paper::{Frame, Log};
 use crate::random::Random;
@@ -15,7 +15,7 @@ pub struct Style {
     pub serials: u64,
     pub queries: u64,
     pub step: u64,
-    /// One frame in so many comes about a life after the one before, or on the second on which the oldest message leaves.
+    /// One frame in so many comes a life after the one before, or in the last second of the oldest message in force; or a second later.
     pub jump: u64,
 }
 
@@ -77,10 +77,9 @@ impl Source {
         if r.one_in(20) {
             return log.clock.saturating_sub(r.below(5) as u32);
         }
-        let ahead = match (r.one_in(s.jump), r.below(3)) {
-            (true, 0) => s.life - 1,
-            (true, 1) => s.life,
-            (true, _) => log.in_force().first().map_or(0, |m| s.life - (log.clock - m.time)),
+        let ahead = match (r.one_in(s.jump), r.below(2)) {
+            (true, 0) => s.life + r.below(2) as u32,
+            (true, _) => log.in_force().first().map_or(0, |m| s.life - (log.clock - m.time) + r.below(2) as u32),
             _ => r.below(s.step + 1) as u32,
         };
         log.clock.saturating_add(ahead)
@@ -101,8 +100,8 @@ impl Source {
                     let n = log.messages.len().min(last);
                     (n > 0).then(|| &log.messages[log.messages.len() - 1 - r.below(n as u64) as usize])
                 };
-                let leaving = log.in_force().into_iter().find(|m| time >= m.time && time - m.time >= s.life).filter(|_| r.one_in(4));
-                let old = if leaving.is_some() || !r.one_in(8) { leaving } else { earlier(r, 2 * log.capacity) };
+                let ending = log.in_force().into_iter().find(|m| time >= m.time && time - m.time >= s.life).filter(|_| r.one_in(4));
+                let old = if ending.is_some() || !r.one_in(8) { ending } else { earlier(r, 2 * log.capacity) };
                 let twin = if r.one_in(6) { earlier(r, 20) } else { None };
                 Frame::Message {
                     time,

@@ -40,9 +40,17 @@ enum Event {
     ListFullAgain,
     /// Of a query that lists one message: another takes its place.
     OnlyEntryReplaced,
+    /// A message arrives in the last second of another, and in the second after it.
+    ArrivalInALastSecond,
+    ArrivalASecondLater,
+    /// Its serial is that of the other: refused in the last second, and used again in the second after it.
+    SerialInItsLastSecond,
+    SerialASecondLater,
+    /// A message leaves for N in its last second.
+    LastSecondCutForN,
 }
 
-const EVENTS: [Event; 21] = [
+const EVENTS: [Event; 26] = [
     Event::SerialUsedAgain,
     Event::TwoInOneSecond,
     Event::LeavingAsOneArrives,
@@ -64,6 +72,11 @@ const EVENTS: [Event; 21] = [
     Event::ListFallsShort,
     Event::ListFullAgain,
     Event::OnlyEntryReplaced,
+    Event::ArrivalInALastSecond,
+    Event::ArrivalASecondLater,
+    Event::SerialInItsLastSecond,
+    Event::SerialASecondLater,
+    Event::LastSecondCutForN,
 ];
 
 #[derive(Default)]
@@ -106,6 +119,7 @@ impl Passage {
         let f = match self.log.judge(bytes) {
             Err(number) => {
                 assert_eq!(reply, Reply { number, marks: 0, departures: 0 }, "{bytes:02x?}");
+                self.note_refused(bytes, number);
                 return reply;
             }
             Ok(f) => f,
@@ -125,8 +139,16 @@ impl Passage {
         reply
     }
 
+    fn note_refused(&mut self, bytes: &[u8], number: u32) {
+        if let (8, Ok(Frame::Message { time, serial, .. })) = (number, Frame::read(bytes)) {
+            let met = self.log.in_force().iter().any(|m| time - m.time == self.log.life && m.serial == serial);
+            self.met.note(Event::SerialInItsLastSecond, met);
+        }
+    }
+
     fn note(&mut self, f: &Frame, departed: &[Message], queries: &[Option<Query>], marks: u32) {
-        let aged = departed.iter().filter(|m| f.time() - m.time >= self.log.life).count();
+        let life = self.log.life;
+        let aged = departed.iter().filter(|m| f.time() - m.time > life).count();
         match f {
             Frame::Message { serial, time, .. } => {
                 let earlier = &self.log.messages[..self.log.messages.len() - 1];
@@ -134,6 +156,10 @@ impl Passage {
                 self.met.note(Event::TwoInOneSecond, earlier.last().is_some_and(|m| m.time == *time));
                 self.met.note(Event::LeavingAsOneArrives, aged > 0);
                 self.met.note(Event::OldestLeavingForN, departed.len() > aged);
+                self.met.note(Event::ArrivalInALastSecond, self.log.in_force().iter().any(|m| time - m.time == life));
+                self.met.note(Event::ArrivalASecondLater, departed.iter().any(|m| time - m.time == life + 1));
+                self.met.note(Event::SerialASecondLater, departed.iter().any(|m| time - m.time == life + 1 && m.serial == *serial));
+                self.met.note(Event::LastSecondCutForN, departed.iter().any(|m| time - m.time == life));
             }
             Frame::Tick { .. } => self.met.note(Event::SeveralLeavingByATick, aged > 1),
             Frame::Register { number, .. } => self.met.note(Event::NumberRegisteredAgain, self.dropped[*number]),
@@ -272,18 +298,20 @@ fn one_message_in_force() {
         Event::SeveralListedLeavingFull,
         Event::SeveralListedLeavingShort,
         Event::ArrivalEqualToLast,
+        Event::ArrivalInALastSecond,
     ];
     run(Style { capacity: 1, life: 50, terms: 6, counts: 3, serials: 4, queries: 8, step: 4, jump: 10 }, 1200, 2, &ruled_out);
 }
 
 #[test]
 fn a_full_ring() {
-    run(Style { capacity: 256, life: 65535, terms: 12, counts: 4, serials: 1 << 20, queries: 6, step: 1, jump: 200 }, 1500, 28, &[]);
+    run(Style { capacity: 256, life: 65535, terms: 12, counts: 4, serials: 1 << 20, queries: 6, step: 1, jump: 400 }, 5000, 2, &[]);
 }
 
 #[test]
 fn one_second_of_life() {
-    run(Style { capacity: 256, life: 1, terms: 8, counts: 3, serials: 60, queries: 12, step: 1, jump: 10 }, 1500, 4, &[Event::OldestLeavingForN]);
+    let ruled_out = [Event::OldestLeavingForN, Event::LastSecondCutForN];
+    run(Style { capacity: 256, life: 1, terms: 8, counts: 3, serials: 60, queries: 12, step: 1, jump: 10 }, 1500, 4, &ruled_out);
 }
 
 #[test]
@@ -293,47 +321,125 @@ fn ties() {
 
 #[test]
 fn extreme_counts() {
-    run(Style { capacity: 100, life: 1000, terms: 1024, counts: 255, serials: 1 << 20, queries: 32, step: 9, jump: 60 }, 1500, 51, &[]);
+    run(Style { capacity: 100, life: 1000, terms: 1024, counts: 255, serials: 1 << 20, queries: 32, step: 9, jump: 60 }, 3000, 6, &[]);
+}
+
+// ---- passages by hand: every message has term 5 once, and query 0, where there is one, lists the best 16 by it
+
+fn message(time: u32, serial: u32) -> Vec<u8> {
+    Frame::Message { time, serial, pairs: vec![(5, 1)] }.bytes()
+}
+
+fn tick(time: u32) -> Vec<u8> {
+    Frame::Tick { time }.bytes()
+}
+
+fn watched(capacity: u32, life: u32) -> Passage {
+    let mut p = Passage::new(capacity, life);
+    p.hand(&Frame::Register { time: 0, number: 0, k: 16, terms: vec![(5, 2)] }.bytes());
+    p
+}
+
+fn listed(p: &Passage) -> Vec<u32> {
+    engine::list(&p.state, 0).unwrap().iter().map(|e| e.0).collect()
 }
 
 #[test]
 fn the_clock_at_its_end() {
-    let mut p = Passage::new(8, 100);
-    let message = |time, serial| Frame::Message { time, serial, pairs: vec![(3, 1)] }.bytes();
-    p.hand(&Frame::Register { time: 0, number: 31, k: 3, terms: vec![(3, 2)] }.bytes());
+    let mut p = watched(8, 100);
     p.hand(&message(u32::MAX - 1, 0));
     p.hand(&message(u32::MAX, 1));
     assert_eq!(p.hand(&message(u32::MAX - 1, 2)).number, 7);
     p.hand(&message(u32::MAX, 2));
-    p.hand(&Frame::Tick { time: u32::MAX }.bytes());
+    p.hand(&tick(u32::MAX));
+    assert_eq!(listed(&p), [2, 1, 0]);
 }
 
-/// C8: with T = 100 an arrival at 20 is in force at 119 and gone at 120.
+/// C8: with T = 100 an arrival at 20 is in force at 120 and gone at 121. So with any T, up to the last arrival that can still go.
 #[test]
 fn age() {
-    let mut p = Passage::new(3, 100);
-    p.hand(&Frame::Message { time: 20, serial: 2, pairs: vec![(5, 1)] }.bytes());
-    assert_eq!(p.hand(&Frame::Tick { time: 119 }.bytes()).departures, 0);
-    assert_eq!(p.hand(&Frame::Tick { time: 120 }.bytes()).departures, 1);
+    for life in [1, 2, 100, 65535] {
+        for arrival in [0, 20, u32::MAX - life - 1] {
+            let mut p = watched(3, life);
+            p.hand(&message(arrival, 2));
+            for time in [arrival, arrival + life - 1, arrival + life] {
+                assert_eq!((p.hand(&tick(time)).departures, listed(&p)), (0, vec![2]), "T = {life}, arrival at {arrival}, at {time}");
+            }
+            let gone = p.hand(&tick(arrival + life + 1));
+            assert_eq!((gone.departures, gone.marks, listed(&p)), (1, 1, vec![]), "T = {life}, arrival at {arrival}");
+        }
+    }
+}
+
+/// An arrival so late that the clock never shows it past stays in force: in the clock's last second it is of age T, or less.
+#[test]
+fn no_second_after_the_last() {
+    for life in [1, 100, 65535] {
+        for early in [0, 1] {
+            let mut p = watched(3, life);
+            p.hand(&message(u32::MAX - life + early, 2));
+            p.hand(&tick(u32::MAX));
+            assert_eq!(listed(&p), [2]);
+            assert_eq!(p.hand(&message(u32::MAX, 2)).number, 8);
+        }
+    }
+}
+
+/// A message arrives in the very second in which another is of age T, and in which it is of age T + 1; with the other's serial too, and with N
+/// messages in force at the same time, so that the other would leave for N.
+#[test]
+fn arrivals_about_a_last_second() {
+    for life in [1, 2, 100, 65535] {
+        for start in [0, 7, u32::MAX - life - 1] {
+            for capacity in [1, 2, 256] {
+                let full = capacity == 1;
+                let other = |p: &mut Passage| assert_eq!(p.hand(&message(start, 1)).number, 0);
+
+                let mut p = watched(capacity, life);
+                other(&mut p);
+                assert_eq!(p.hand(&message(start + life, 1)).number, 8, "a serial in its last second");
+                assert_eq!(p.hand(&message(start + life, 2)).departures, full as u32, "an arrival in a last second");
+                assert_eq!(listed(&p), if full { vec![2] } else { vec![2, 1] });
+                assert_eq!(p.hand(&message(start + life + 1, 1)).departures, 1, "the serial again, a second later");
+                assert_eq!(listed(&p), if full { vec![1] } else { vec![1, 2] });
+
+                let mut p = watched(capacity, life);
+                other(&mut p);
+                assert_eq!(p.hand(&message(start + life + 1, 2)).departures, 1, "an arrival in the second after the last");
+                assert_eq!(listed(&p), [2]);
+            }
+        }
+    }
+}
+
+/// N messages of one second, each in its last second as one more arrives: the oldest leaves for N. A second later the others go as one arrives.
+#[test]
+fn a_full_window_in_its_last_second() {
+    for (capacity, life) in [(3, 1), (3, 100), (256, 1), (256, 65535)] {
+        let mut p = watched(capacity, life);
+        (0..capacity).for_each(|serial| assert_eq!(p.hand(&message(5, serial)).departures, 0));
+        assert_eq!(p.hand(&message(5 + life, 0)).number, 8, "the oldest's serial, though it would leave for N");
+        assert_eq!(p.hand(&message(5 + life, capacity)).departures, 1);
+        assert_eq!(p.hand(&message(5 + life, 0)).number, 0, "the serial of one that left for N");
+        assert_eq!(p.hand(&message(5 + life + 1, 1000)).departures, capacity - 2);
+    }
 }
 
 /// A serial in force at the frame's time is refused even where its message would leave for N by that frame.
 #[test]
 fn serials() {
     let mut p = Passage::new(1, 100);
-    let message = |time, serial| Frame::Message { time, serial, pairs: vec![(5, 1)] }.bytes();
     assert_eq!(p.hand(&message(10, 7)).number, 0);
     assert_eq!(p.hand(&message(20, 7)).number, 8);
-    assert_eq!(p.hand(&message(110, 7)).number, 0);
-    assert_eq!(p.hand(&message(111, 8)).number, 0);
-    assert_eq!(p.hand(&message(112, 7)).number, 0);
+    assert_eq!(p.hand(&message(111, 7)).number, 0);
+    assert_eq!(p.hand(&message(112, 8)).number, 0);
+    assert_eq!(p.hand(&message(113, 7)).number, 0);
 }
 
 /// A serial in force is found wherever the window stands in the ring, around its end too: the newest, the oldest, and some between.
 #[test]
 fn serials_around_the_ring() {
     let mut p = Passage::new(200, 65535);
-    let message = |time, serial| Frame::Message { time, serial, pairs: vec![(5, 1)] }.bytes();
     for i in 0..600 {
         assert_eq!(p.hand(&message(i, i)).number, 0);
         for back in [0, 1, 70, 130, 198, 199].into_iter().filter(|back| *back <= i) {

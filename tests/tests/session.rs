@@ -111,7 +111,7 @@ fn dropping() {
     let frames = [register(0, 0, 2, &[(5, 1)]), drop_query(0, 0), drop_query(0, 0), register(0, 0, 1, &[(6, 1)])];
     assert_eq!(session(&input(3, 100, &frames)), "1 0 00000001 0\nQ 0 0\n2 0 00000001 0\n3 10 00000000 0\n4 0 00000001 0\nQ 0 0\n");
     // a departure reaches another query by the same frame
-    let frames = [register(0, 0, 2, &[(5, 1)]), register(0, 9, 2, &[(5, 3)]), message(0, 8, &[(5, 1)]), drop_query(100, 0)];
+    let frames = [register(0, 0, 2, &[(5, 1)]), register(0, 9, 2, &[(5, 3)]), message(0, 8, &[(5, 1)]), drop_query(101, 0)];
     let want = "1 0 00000001 0\nQ 0 0\n2 0 00000200 0\nQ 9 0\n3 0 00000201 0\nQ 0 1 8 1000\nQ 9 1 8 3000\n4 0 00000201 1\nQ 9 0\n";
     assert_eq!(session(&input(3, 100, &frames)), want);
 }
@@ -120,7 +120,7 @@ fn dropping() {
 #[test]
 fn marks() {
     let (first, last) = (register(0, 0, 1, &[(5, 1)]), register(0, 31, 1, &[(5, 2)]));
-    let frames = [last, first, message(1, 1048575, &[(5, 7)]), message(1, 0, &[(6, 7)]), tick(100), tick(101)];
+    let frames = [last, first, message(1, 1048575, &[(5, 7)]), message(1, 0, &[(6, 7)]), tick(101), tick(102)];
     let want = "1 0 80000000 0\nQ 31 0\n2 0 00000001 0\nQ 0 0\n3 0 80000001 0\nQ 0 1 1048575 1000\nQ 31 1 1048575 2000\n\
                 4 0 00000000 0\n5 0 00000000 0\n6 0 80000001 2\nQ 0 0\nQ 31 0\n";
     assert_eq!(session(&input(3, 100, &frames)), want);
@@ -139,7 +139,7 @@ fn marks() {
 /// N less one is a byte: 256 messages are in force with 255, one with 0.
 #[test]
 fn capacities() {
-    let frames: Vec<_> = (0..300).map(|i| message(0, i, &[(5, 1)])).chain([tick(100)]).collect();
+    let frames: Vec<_> = (0..300).map(|i| message(0, i, &[(5, 1)])).chain([tick(101)]).collect();
     for capacity in [1, 2, 255, 256] {
         let mut want: String = (0..300).map(|i| format!("{} 0 00000000 {}\n", i + 1, (i >= capacity) as u32)).collect();
         writeln!(want, "301 0 00000000 {capacity}").unwrap();
@@ -147,15 +147,15 @@ fn capacities() {
     }
 }
 
-/// T is two bytes, the higher first. C8: with T = 100 an arrival at 20 is in force at 119 and gone at 120.
+/// T is two bytes, the higher first. C8: with T = 100 an arrival at 20 is in force at 120 and gone at 121.
 #[test]
 fn lives() {
     for life in [1, 100, 255, 256, 257, 65280, 65535] {
-        let frames = [message(20, 1, &[(5, 1)]), tick(20 + life - 1), tick(20 + life)];
+        let frames = [message(20, 1, &[(5, 1)]), tick(20 + life), tick(20 + life + 1)];
         assert_eq!(session(&input(3, life, &frames)), "1 0 00000000 0\n2 0 00000000 0\n3 0 00000000 1\n", "T = {life}");
     }
-    assert_eq!(session(&[2, 0x01, 0x00, 10, 0x10, 0, 0, 1, 0x40, 0, 2, 0, 0x14, 4, 5, 0x20, 0, 0, 0x11, 0x30]), "1 0 00000000 0\n2 0 00000000 0\n");
-    assert_eq!(session(&[2, 0x01, 0x00, 10, 0x10, 0, 0, 1, 0x40, 0, 2, 0, 0x14, 4, 5, 0x20, 0, 0, 0x11, 0x40]), "1 0 00000000 0\n2 0 00000000 1\n");
+    assert_eq!(session(&[2, 0x01, 0x00, 10, 0x10, 0, 0, 1, 0x40, 0, 2, 0, 0x14, 4, 5, 0x20, 0, 0, 0x11, 0x40]), "1 0 00000000 0\n2 0 00000000 0\n");
+    assert_eq!(session(&[2, 0x01, 0x00, 10, 0x10, 0, 0, 1, 0x40, 0, 2, 0, 0x14, 4, 5, 0x20, 0, 0, 0x11, 0x50]), "1 0 00000000 0\n2 0 00000000 1\n");
 }
 
 /// Refused frames count, and do nothing else: neither the clock nor a list moves.

@@ -143,19 +143,19 @@ module _ (log : Log) (f : Frame) (sound : Sound log) (ok : judgeFrame log f ≡ 
   distinct-stays = distinct-split in-force-before (sound .distinct)
 
 -- an arriving message is in force
-arrive : (N T : ℕ) (f : Frame) → 1 ≤ N → 1 ≤ T → inForce N T (timeOf f) (arrivals f) ≡ arrivals f
+arrive : (N T : ℕ) (f : Frame) → 1 ≤ N → inForce N T (timeOf f) (arrivals f) ≡ arrivals f
 unfolding inForce
-arrive N T (message t s ps) n h = rw (standing-true N T t 0 (record { time = t; serial = s; pairs = ps }) n (omega arith))
-arrive N T (tick t) n h = refl
-arrive N T (register t m k ps) n h = refl
-arrive N T (unregister t m) n h = refl
+arrive N T (message t s ps) n = rw (standing-true N T t 0 (record { time = t; serial = s; pairs = ps }) n (omega arith))
+arrive N T (tick t) n = refl
+arrive N T (register t m k ps) n = refl
+arrive N T (unregister t m) n = refl
 
 -- what stays is in force, and then what arrives
 pub in-force-after : (log : Log) (f : Frame) → Sound log → judgeFrame log f ≡ 0 → inForceNow (accept log f) ≡ stays log f ++ arrivals f
 unfolding accept
 in-force-after log f sound ok =
     in-force-append (log .N) (log .T) (timeOf f) (log .messages) (arrivals f)
-    ∙ ap₂ _++_ (sym (stays-standing log f sound ok)) (arrive (log .N) (log .T) f (sound .N-least) (sound .T-least))
+    ∙ ap₂ _++_ (sym (stays-standing log f sound ok)) (arrive (log .N) (log .T) f (sound .N-least))
 
 -- What a query sees before a frame and after it, and what the frame moves for it.
 pub record Sees (log : Log) (f : Frame) (q : Query) : Type 0 where

@@ -7,8 +7,8 @@ use mathlib.Core.Path.{_≡_, refl, ap, ap₂, _∙_}
 use mathlib.Core.Bool.{Bool, true, false, cond, not, _&&_, and-false}
 use mathlib.Core.List.{List, [], _∷_, _++_}
 use lib.ListN.{length, length-append}
-use lib.Dec.{leb, ltb}
-use borrow.Author.Tests.{lt-ltb, ltb-true, lt-leb, leb-false, not-true}
+use lib.Dec.{ltb}
+use borrow.Author.Tests.{lt-ltb, le-ltb, ltb-true, ltb-false, not-true}
 use Rattle.paper.proofs.Tests.{by-bool, and-true}
 use Rattle.paper.specs.Window.{Message, standing, inForce, departing, remaining}
 use Rattle.paper.specs.Order.{Split}
@@ -18,13 +18,13 @@ use Rattle.paper.specs.Sound.{From, Chronological}
 -- ---- one message
 
 module _ (N T : ℕ) where
-  pub stands : (t j : ℕ) (m : Message) → standing N T t j m ≡ true → (j < N) × (t - m .time < T)
+  pub stands : (t j : ℕ) (m : Message) → standing N T t j m ≡ true → (j < N) × (t - m .time ≤ T)
   stands t j m e =
-      let p = and-true (ltb j N) (not (leb T (t - m .time))) e in
-      (ltb-true j N (p .0), leb-false T (t - m .time) (not-true (leb T (t - m .time)) (p .1)))
+      let p = and-true (ltb j N) (not (ltb T (t - m .time))) e in
+      (ltb-true j N (p .0), ltb-false T (t - m .time) (not-true (ltb T (t - m .time)) (p .1)))
 
-  pub standing-true : (t j : ℕ) (m : Message) → j < N → t - m .time < T → standing N T t j m ≡ true
-  standing-true t j m h k = ap₂ _&&_ (lt-ltb j N h) (ap not (lt-leb T (t - m .time) k))
+  pub standing-true : (t j : ℕ) (m : Message) → j < N → t - m .time ≤ T → standing N T t j m ≡ true
+  standing-true t j m h k = ap₂ _&&_ (lt-ltb j N h) (ap not (le-ltb T (t - m .time) k))
 
   -- where a message stands, a later one stands, and each stood before
   later-stands : (t t′ j j′ : ℕ) (m x : Message) → standing N T t′ j′ m ≡ true → t ≤ t′ → j ≤ j′ → m .time ≤ x .time → standing N T t j x ≡ true
@@ -49,21 +49,21 @@ module _ (N T : ℕ) where
 
   -- ---- where one message stands, so do all after it
 
-  pub all-stay : (t more x : ℕ) (l : List Message) → length l + more ≤ N → t - x < T → From x l → staying t more l ≡ l
-  unfolding staying
-  all-stay t more x [] hn ht f = refl
-  all-stay t more x (m ∷ l) hn ht f =
-      rw (standing-true t (length l + more) m (omega arith) (omega arith), all-stay t more x l (omega arith) ht (f .1))
+  module _ (t j more : ℕ) (first : Message) (e : standing N T t j first ≡ true) where
+    pub all-stay : (l : List Message) → length l + more ≤ j + 1 → From (first .time) l → staying t more l ≡ l
+    unfolding staying
+    all-stay [] h f = refl
+    all-stay (m ∷ l) h f = rw (later-stands t t (length l + more) j first m e (omega arith) (omega arith) (f .0), all-stay l (omega arith) (f .1))
 
-  none-departs : (t t′ more x : ℕ) (l : List Message) → length l + more ≤ N → t′ - x < T → From x l → departing N T t t′ more l ≡ []
-  unfolding departing
-  none-departs t t′ more x [] hn ht f = refl
-  none-departs t t′ more x (m ∷ l) hn ht f =
-      rw (
-        standing-true t′ (length l + more) m (omega arith) (omega arith),
-        and-false (standing N T t (length l) m),
-        none-departs t t′ more x l (omega arith) ht (f .1),
-      )
+    none-departs : (t₀ : ℕ) (l : List Message) → length l + more ≤ j + 1 → From (first .time) l → departing N T t₀ t more l ≡ []
+    unfolding departing
+    none-departs t₀ [] h f = refl
+    none-departs t₀ (m ∷ l) h f =
+        rw (
+          later-stands t t (length l + more) j first m e (omega arith) (omega arith) (f .0),
+          and-false (standing N T t₀ (length l) m),
+          none-departs t₀ l (omega arith) (f .1),
+        )
 
   pub in-force-most : (t : ℕ) (l : List Message) → (length (inForce N T t l) ≤ length l) × (length (inForce N T t l) ≤ N)
   unfolding inForce
@@ -115,8 +115,7 @@ module _ (N T : ℕ) where
           → cond (standing N T t (length l) m) (m ∷ inForce N T t l) (inForce N T t l)
           ≡ cond (standing N T t (length l) m && not b) (m ∷ gone) gone ++ cond b (m ∷ stay) stay
       go true e ih =
-          let p = stands t′ (length l + more) m e in
-          let none : gone ≡ [] = none-departs t t′ more (m .time) l (omega arith) (omega arith) (o .1) in
+          let none : gone ≡ [] = none-departs t′ (length l + more) more m e t l (omega arith) (o .1) in
           rw (later-stands t t′ (length l) (length l + more) m m e h (omega arith) (omega arith), none)
           (ap (λ (r : List Message). m ∷ r) (ih ∙ ap (λ (r : List Message). r ++ stay) none))
       go false e ih = leaves (standing N T t (length l) m) ih

@@ -1,5 +1,5 @@
--- The starred cases of document 01, "Worked passages", and rows for the order of the refusals 1 to 6, as one table.
--- proofs/CasesHold.antt has its one theorem.
+-- The starred cases of document 01, "Worked passages", under document 02's age rule (T-01); C8, which moves with that rule; and rows for the
+-- order of the refusals 1 to 6: as one table. proofs/CasesHold.antt has its one theorem.
 -- Assumes nothing.
 use Prim.Native.Nat.{ℕ, suc}
 use mathlib.Core.List.{List, [], _∷_, map}
@@ -68,9 +68,14 @@ expected (passage N T frames told) = told
 abbrev pub at : ℕ → ℕ → Pair
 at t n = record { term = t; amount = n }
 
--- C5, and the frames of C9 and C10
+-- C5, and the frames of C8, C9 and C10
 abbrev pub registered : Frame
 registered = register 0 0 2 (at 5 1 ∷ at 9 2 ∷ [])
+
+abbrev pub c8 : List (List ℕ)
+c8 =
+    map encode
+    (registered ∷ message 20 2 (at 5 1 ∷ []) ∷ tick 120 ∷ message 120 2 (at 5 1 ∷ []) ∷ tick 121 ∷ message 121 2 (at 5 1 ∷ []) ∷ [])
 
 abbrev pub c9 : List (List ℕ)
 c9 = map encode (registered ∷ message 10 1 (at 5 1 ∷ []) ∷ message 20 2 (at 5 1 ∷ []) ∷ [])
@@ -111,6 +116,15 @@ table =
     -- C7
     ∷ spelling (unregister 0 0) (0x40 ∷ 0x00 ∷ 0x00 ∷ 0x00 ∷ 0x00 ∷ 0x00 ∷ [])
     ∷ passage 3 100 (encode (unregister 0 0) ∷ []) ((10 ∷ 0 ∷ []) ∷ [])
+    -- C8: in force at 120, its serial taken; gone at 121, its serial free
+    ∷ passage 3 100 c8
+    ((0 ∷ 0 ∷ [])
+    ∷ (0 ∷ 0 ∷ 2 ∷ 1000 ∷ [])
+    ∷ (0 ∷ 0 ∷ 2 ∷ 1000 ∷ [])
+    ∷ (8 ∷ 0 ∷ 2 ∷ 1000 ∷ [])
+    ∷ (0 ∷ 1 ∷ [])
+    ∷ (0 ∷ 0 ∷ 2 ∷ 1000 ∷ [])
+    ∷ [])
     -- C9
     ∷ passage 3 100 c9 ((0 ∷ 0 ∷ []) ∷ (0 ∷ 0 ∷ 1 ∷ 1000 ∷ []) ∷ (0 ∷ 0 ∷ 2 ∷ 1000 ∷ 1 ∷ 1000 ∷ []) ∷ [])
     -- C10
@@ -120,8 +134,8 @@ table =
     ∷ (0 ∷ 0 ∷ 1 ∷ 2200 ∷ 2 ∷ 1000 ∷ [])
     ∷ (0 ∷ 0 ∷ 1 ∷ 2200 ∷ 3 ∷ 1414 ∷ [])
     ∷ (0 ∷ 1 ∷ 3 ∷ 1414 ∷ 2 ∷ 1000 ∷ [])
-    ∷ (0 ∷ 1 ∷ 3 ∷ 1414 ∷ 4 ∷ 447 ∷ [])
-    ∷ (7 ∷ 0 ∷ 3 ∷ 1414 ∷ 4 ∷ 447 ∷ [])
+    ∷ (0 ∷ 0 ∷ 3 ∷ 1414 ∷ 2 ∷ 1000 ∷ [])
+    ∷ (7 ∷ 0 ∷ 3 ∷ 1414 ∷ 2 ∷ 1000 ∷ [])
     ∷ [])
     -- "Order for a frame": of all that is wrong the first is told. Each row mends one thing of the row above.
     ∷ judging (0x00 ∷ 0x00 ∷ 0x00 ∷ 0x00 ∷ []) 1

@@ -1,10 +1,10 @@
 -- The window: which of the accepted messages are in force, and which leave it.
--- Document 01, "Window, impact, rank". Assumes nothing.
+-- Document 01, "Window, impact, rank", and document 02, T-01. Assumes nothing.
 use Prim.Native.Nat.{ℕ, _+_, _-_}
 use mathlib.Core.Bool.{Bool, cond, not, _&&_}
 use mathlib.Core.List.{List, [], _∷_}
 use lib.ListN.{length}
-use lib.Dec.{leb, ltb}
+use lib.Dec.{ltb}
 use Rattle.paper.specs.Frame.{Pair}
 
 -- "N is 1 to 256 messages and T 1 to 65,535 seconds"
@@ -20,14 +20,14 @@ pub record Message : Type 0 where
   pub serial : ℕ
   pub pairs : List Pair
 
--- "whose age (clock less arrival time) is below T": with any other age an arrival at `time` is past
+-- "Age up to and including T now counts as in force": with any other age (clock less arrival time) an arrival at `time` is past
 abbrev pub past : ℕ → ℕ → ℕ → Bool
-past T clock time = leb T (clock - time)
+past T clock time = ltb T (clock - time)
 
 abbrev pub aged : ℕ → ℕ → Message → Bool
 aged T clock m = past T clock (m .time)
 
--- "those of the last N accepted messages whose age .. is below T": a message after which `later` more were accepted
+-- "those of the last N accepted messages" that aren't past: a message after which `later` more were accepted
 abbrev pub standing : ℕ → ℕ → ℕ → ℕ → Message → Bool
 standing N T clock later m = ltb later N && not (aged T clock m)
 

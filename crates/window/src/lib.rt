@@ -22,10 +22,7 @@ use paper::layout;
 fn is_past(life: u32, clock: u32, time: u32) -> bool
     ensures { λ r. ⌜ r ≡ past life clock time ⌝ }
 {
-    if clock < time {
-        return life == 0;
-    }
-    life <= clock - time
+    time < clock && life < clock - time
 }
 
 // The slot after a slot.

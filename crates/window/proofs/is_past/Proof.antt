@@ -1,22 +1,15 @@
 -- `is_past` meets its contract. Assumes nothing.
-use Prim.Native.Nat.{ℕ, zero, suc, _-_}
+use Prim.Native.Nat.{_-_}
 use native.Mathlib.Omega.{arith}
-use mathlib.Core.Path.{_≡_, refl, sym, ap, _∙_}
-use lib.Dec.{eqb, leb, leb·suc-zero, eqb·suc-zero}
+use mathlib.Core.Path.{refl, sym, _∙_}
+use borrow.Author.Tests.{le-ltb}
 use borrow.Author.Needs.{needs}
 use Rattle.window.proofs.is_past.Statement.{statement}
 use Rattle.window.proofs.is_past.Tie as tie
 
-none-left : (n : ℕ) → eqb n 0 ≡ leb n 0
-none-left zero = refl
-none-left (suc n) = eqb·suc-zero n ∙ sym (leb·suc-zero n)
-
--- an arrival after the clock has age 0
-returns : tie.Need-returns
-returns c =
-    let a = c .before .args in
-    let e : 0 ≡ a .clock - a .time = omega arith in
-    none-left (a .life) ∙ ap (leb (a .life)) e
+-- an arrival that isn't before the clock has age 0
+returns-2 : tie.Need-returns-2
+returns-2 c = let a = c .before .args in le-ltb (a .time) (a .clock) (omega arith) ∙ sym (le-ltb (a .life) (a .clock - a .time) (omega arith))
 
 pub is-past-spec : {M : Type 1} → statement M
-is-past-spec = tie.close (tie.spec returns (λ c. search needs))
+is-past-spec = tie.close (tie.spec (λ c. search needs) (λ c. refl) returns-2)
