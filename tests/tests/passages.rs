@@ -254,6 +254,11 @@ const ROUNDS: u64 = 2;
 /// Every number from 1 to 10 must be met, and every event but those that the style rules out. With another seed or fewer rounds a rare event may be
 /// missing, so there events aren't asked for.
 fn run(style: Style, frames: usize, own_seed: u64, ruled_out: &[Event]) {
+    run_from(0, style, frames, own_seed, ruled_out);
+}
+
+/// The same with a clock that starts there.
+fn run_from(start: u32, style: Style, frames: usize, own_seed: u64, ruled_out: &[Event]) {
     let rounds = setting("FENNELRAKE_ROUNDS", ROUNDS).max(1);
     let seed = setting("FENNELRAKE_SEED", own_seed);
     let mut met = Met::default();
@@ -262,6 +267,7 @@ fn run(style: Style, frames: usize, own_seed: u64, ruled_out: &[Event]) {
         let mut source = Source::new(style, seed.wrapping_add(round));
         let mut r = Random::new(!seed.wrapping_add(round));
         let mut p = Passage::new(style.capacity, style.life);
+        p.hand(&tick(start));
         for _ in 0..frames {
             let bytes = source.next(&p.log);
             p.hand(&bytes);
@@ -322,6 +328,13 @@ fn ties() {
 #[test]
 fn extreme_counts() {
     run(Style { capacity: 100, life: 1000, terms: 1024, counts: 255, serials: 1 << 20, queries: 32, step: 9, jump: 60 }, 3000, 6, &[]);
+}
+
+/// The clock's last second comes about half way, and there it stays.
+#[test]
+fn up_to_the_clocks_end() {
+    let style = Style { capacity: 30, life: 90, terms: 10, counts: 4, serials: 300, queries: 12, step: 3, jump: 30 };
+    run_from(u32::MAX - 2000, style, 1500, 7, &[]);
 }
 
 // ---- passages by hand: every message has term 5 once, and query 0, where there is one, lists the best 16 by it
