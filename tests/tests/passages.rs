@@ -368,59 +368,62 @@ fn the_clock_at_its_end() {
     assert_eq!(listed(&p), [2, 1, 0]);
 }
 
-/// C8: with T = 100 an arrival at 20 is in force at 120 and gone at 121. So with any T, up to the last arrival that can still go.
+/// T and a time of arrival, up to the last at which a message can still be seen to go.
+fn lives() -> impl Iterator<Item = (u32, u32)> {
+    [1, 2, 100, 65535].into_iter().flat_map(|life| [0, 20, u32::MAX - life - 1].map(|arrival| (life, arrival)))
+}
+
+/// C8: with T = 100 an arrival at 20 is in force at 120 and gone at 121.
 #[test]
 fn age() {
-    for life in [1, 2, 100, 65535] {
-        for arrival in [0, 20, u32::MAX - life - 1] {
-            let mut p = watched(3, life);
-            p.hand(&message(arrival, 2));
-            for time in [arrival, arrival + life - 1, arrival + life] {
-                assert_eq!((p.hand(&tick(time)).departures, listed(&p)), (0, vec![2]), "T = {life}, arrival at {arrival}, at {time}");
-            }
-            let gone = p.hand(&tick(arrival + life + 1));
-            assert_eq!((gone.departures, gone.marks, listed(&p)), (1, 1, vec![]), "T = {life}, arrival at {arrival}");
+    for (life, arrival) in lives() {
+        let mut p = watched(3, life);
+        p.hand(&message(arrival, 2));
+        for time in [arrival, arrival + life - 1, arrival + life] {
+            assert_eq!((p.hand(&tick(time)).departures, listed(&p)), (0, vec![2]), "T = {life}, arrival at {arrival}, at {time}");
         }
+        let gone = p.hand(&tick(arrival + life + 1));
+        assert_eq!((gone.departures, gone.marks, listed(&p)), (1, 1, vec![]), "T = {life}, arrival at {arrival}");
     }
 }
 
-/// An arrival so late that the clock never shows it past stays in force: in the clock's last second it is of age T, or less.
+/// An arrival so late that the clock never shows it past stays in force: in the clock's last second it is of age T, or of a second less.
 #[test]
 fn no_second_after_the_last() {
-    for life in [1, 100, 65535] {
-        for early in [0, 1] {
-            let mut p = watched(3, life);
-            p.hand(&message(u32::MAX - life + early, 2));
-            p.hand(&tick(u32::MAX));
-            assert_eq!(listed(&p), [2]);
-            assert_eq!(p.hand(&message(u32::MAX, 2)).number, 8);
-        }
+    for (life, later) in [(1, 0), (1, 1), (100, 0), (100, 1), (65535, 0), (65535, 1)] {
+        let mut p = watched(3, life);
+        p.hand(&message(u32::MAX - life + later, 2));
+        p.hand(&tick(u32::MAX));
+        assert_eq!(listed(&p), [2]);
+        assert_eq!(p.hand(&message(u32::MAX, 2)).number, 8);
     }
 }
 
-/// A message arrives in the very second in which another is of age T, and in which it is of age T + 1; with the other's serial too, and with N
-/// messages in force at the same time, so that the other would leave for N.
+/// A message arrives in the very second in which another is of age T; with N messages in force at that time, the other leaves for it.
 #[test]
-fn arrivals_about_a_last_second() {
-    for life in [1, 2, 100, 65535] {
-        for start in [0, 7, u32::MAX - life - 1] {
-            for capacity in [1, 2, 256] {
-                let full = capacity == 1;
-                let other = |p: &mut Passage| assert_eq!(p.hand(&message(start, 1)).number, 0);
+fn arrivals_in_a_last_second() {
+    for ((life, start), capacity) in lives().flat_map(|l| [1, 2, 256].map(|n| (l, n))) {
+        let full = capacity == 1;
+        let mut p = watched(capacity, life);
+        p.hand(&message(start, 1));
+        assert_eq!(p.hand(&message(start + life, 1)).number, 8, "a serial in its last second");
+        assert_eq!(p.hand(&message(start + life, 2)).departures, full as u32);
+        assert_eq!(listed(&p), if full { vec![2] } else { vec![2, 1] });
+        assert_eq!(p.hand(&message(start + life + 1, 1)).departures, 1, "the serial again, a second later");
+        assert_eq!(listed(&p), if full { vec![1] } else { vec![1, 2] });
+    }
+}
 
-                let mut p = watched(capacity, life);
-                other(&mut p);
-                assert_eq!(p.hand(&message(start + life, 1)).number, 8, "a serial in its last second");
-                assert_eq!(p.hand(&message(start + life, 2)).departures, full as u32, "an arrival in a last second");
-                assert_eq!(listed(&p), if full { vec![2] } else { vec![2, 1] });
-                assert_eq!(p.hand(&message(start + life + 1, 1)).departures, 1, "the serial again, a second later");
-                assert_eq!(listed(&p), if full { vec![1] } else { vec![1, 2] });
-
-                let mut p = watched(capacity, life);
-                other(&mut p);
-                assert_eq!(p.hand(&message(start + life + 1, 2)).departures, 1, "an arrival in the second after the last");
-                assert_eq!(listed(&p), [2]);
-            }
+/// A message arrives in the very second in which another is of age T + 1, with a serial of its own or with the other's. The other leaves by its age,
+/// and leaves room where N were in force.
+#[test]
+fn arrivals_a_second_later() {
+    for ((life, start), serial) in lives().flat_map(|l| [1, 2].map(|s| (l, s))) {
+        for capacity in [1, 2, 256] {
+            let mut p = watched(capacity, life);
+            p.hand(&message(start, 1));
+            let reply = p.hand(&message(start + life + 1, serial));
+            assert_eq!((reply.number, reply.departures, listed(&p)), (0, 1, vec![serial]), "N = {capacity}, T = {life}, arrival at {start}");
         }
     }
 }

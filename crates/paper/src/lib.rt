@@ -13,7 +13,7 @@ pub const TERMS: usize = 1024;
 
 pub const NUMBERS: usize = 32;
 
-// The most messages in force, and the most seconds that one is.
+// The most messages in force, and the greatest age in seconds that a start can allow them.
 pub const MOST_MESSAGES: u32 = 256;
 
 pub const LONGEST_LIFE: u32 = 65535;

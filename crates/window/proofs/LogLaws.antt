@@ -78,17 +78,17 @@ module _ (N T : ℕ) where
       stay : List Message
       stay = staying N T t 1 l
 
-      whole : (j more : ℕ) → standing N T t j m ≡ true → length l + more ≤ j + 1 → staying N T t more l ≡ l
-      whole j more e h = all-stay N T t j more m e l h (o .1)
+      whole : (more : ℕ) → standing N T t (length l) m ≡ true → more ≤ 1 → staying N T t more l ≡ l
+      whole more e h = all-stay N T t (length l) more m e l (omega arith) (o .1)
 
       go : (b : Bool) → standing N T t (length l) m ≡ b → (d : Bool) → standing N T t (length l + 1) m ≡ d → Room N all stay
           → Room N (cond b (m ∷ all) all) (cond d (m ∷ stay) stay)
       go true e true f ih =
           let p = stands N T t (length l + 1) m f in
-          rw (← staying-none N T t l, whole (length l) 0 e (omega arith), whole (length l) 1 e (omega arith)) (λ _. refl, λ h. absurd (omega arith))
+          rw (← staying-none N T t l, whole 0 e (omega arith), whole 1 e (omega arith)) (λ _. refl, λ h. absurd (omega arith))
       go true e false f ih =
           let p = stands N T t (length l) m e in
-          rw (← staying-none N T t l, whole (length l) 0 e (omega arith), whole (length l) 1 e (omega arith))
+          rw (← staying-none N T t l, whole 0 e (omega arith), whole 1 e (omega arith))
           (λ h. let s = standing-true N T t (length l + 1) m (omega arith) (p .1) in let z : _≡_ {A = ℕ} 0 1 = cc in absurd (omega arith), λ _. refl)
       go false e true f ih =
           let p = stands N T t (length l + 1) m f in
