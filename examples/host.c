@@ -3,8 +3,8 @@
  *
  *   cc -std=c99 host.c $(pkg-config --cflags --libs fennelrake) -o host && ./host
  *
- * The passage is C10 of the document that describes the ranker: at most 3 messages in force, for 100 seconds each. The lines printed are the
- * document's:
+ * The passage is C10 of the document that describes the ranker: at most 3 messages in force, each up to the age of 100 seconds. The lines printed
+ * are the document's:
  *
  *   ordinal, number, marks, departures      for each frame
  *   Q, query, entries, serial and score ..  after it, for each marked query that is still registered
