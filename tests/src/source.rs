@@ -1,6 +1,6 @@
 //! Random passages made to suit a log: besides ordinary frames, ones refused under each number from 1 to 10 in turn, frames handed again, serials
-//! used again, also of a message in its last second or that leaves by the frame, twins of messages, and times on which messages leave. What is met
-//! so doesn't depend on the seed.
+//! used again, also of a message in its last second or that leaves by the frame, twins of messages, and times on which messages leave. Every number
+//! is met so whatever the seed; rarer things may not be.
 
 use crate::paper::{Frame, Log};
 use crate::random::Random;

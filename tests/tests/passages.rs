@@ -369,14 +369,14 @@ fn the_clock_at_its_end() {
 }
 
 /// T and a time of arrival, up to the last at which a message can still be seen to go.
-fn lives() -> impl Iterator<Item = (u32, u32)> {
+fn corners() -> impl Iterator<Item = (u32, u32)> {
     [1, 2, 100, 65535].into_iter().flat_map(|life| [0, 20, u32::MAX - life - 1].map(|arrival| (life, arrival)))
 }
 
 /// C8: with T = 100 an arrival at 20 is in force at 120 and gone at 121.
 #[test]
 fn age() {
-    for (life, arrival) in lives() {
+    for (life, arrival) in corners() {
         let mut p = watched(3, life);
         p.hand(&message(arrival, 2));
         for time in [arrival, arrival + life - 1, arrival + life] {
@@ -402,7 +402,7 @@ fn no_second_after_the_last() {
 /// A message arrives in the very second in which another is of age T; with N messages in force at that time, the other leaves for it.
 #[test]
 fn arrivals_in_a_last_second() {
-    for ((life, start), capacity) in lives().flat_map(|l| [1, 2, 256].map(|n| (l, n))) {
+    for ((life, start), capacity) in corners().flat_map(|l| [1, 2, 256].map(|n| (l, n))) {
         let full = capacity == 1;
         let mut p = watched(capacity, life);
         p.hand(&message(start, 1));
@@ -418,7 +418,7 @@ fn arrivals_in_a_last_second() {
 /// and leaves room where N were in force.
 #[test]
 fn arrivals_a_second_later() {
-    for ((life, start), serial) in lives().flat_map(|l| [1, 2].map(|s| (l, s))) {
+    for ((life, start), serial) in corners().flat_map(|l| [1, 2].map(|s| (l, s))) {
         for capacity in [1, 2, 256] {
             let mut p = watched(capacity, life);
             p.hand(&message(start, 1));

@@ -18,7 +18,7 @@ use impact::Impact;
 use paper::MOST_PAIRS;
 use paper::layout;
 
-// Whether an arrival at `time` is past at the clock.
+// Whether an arrival at `time` is past at the clock. In foreign memory it may stand after the clock: its age is 0 then.
 fn is_past(life: u32, clock: u32, time: u32) -> bool
     ensures { λ r. ⌜ r ≡ past life clock time ⌝ }
 {
