@@ -3,8 +3,8 @@
  *
  *   cc -std=c99 host.c $(pkg-config --cflags --libs fennelrake) -o host && ./host
  *
- * The passage is C10 of the document that describes the ranker: at most 3 messages in force, each up to the age of 100 seconds. The lines printed
- * are the document's:
+ * The passage is C10 of the document that describes the ranker: at most 3 messages in force, each up to the age of 100 seconds. Then a message is
+ * cancelled and sent again, mended. The lines printed are the document's:
  *
  *   ordinal, number, marks, departures      for each frame
  *   Q, query, entries, serial and score ..  after it, for each marked query that is still registered
@@ -38,6 +38,10 @@ static const struct fields passage[] = {
     {FENNELRAKE_TICK, 120, 0, 0, 0, 0, {0}, {0}},
     /* a time before the clock: refused as 7, and nothing changes */
     {FENNELRAKE_MESSAGE, 119, 9, 0, 0, 1, {5}, {1}},
+    /* the port cancels serial 2: it departs, off the list and the postings at once */
+    {FENNELRAKE_CANCEL, 120, 2, 0, 0, 0, {0}, {0}},
+    /* and sends it again under the same serial; that the cancelled one has come of age by now is no departure */
+    {FENNELRAKE_MESSAGE, 121, 2, 0, 0, 2, {5, 9}, {1, 1}},
 };
 
 /* Writes a frame into out. Returns its length, or ends the program: fields that can't be written are a mistake in the table above. */

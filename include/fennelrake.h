@@ -1,9 +1,10 @@
 /*
  * Fennelrake: the message ranker of a ship's docking display, for hosts written in C.
  *
- * The host lends memory. An engine in it takes frames (messages, clock ticks, registrations and drops of queries) and keeps, for each registered
- * query, the ranked list of the best messages in force. Nothing is allocated, no file is read or written, and the archive keeps no memory of its
- * own between calls: one memory is one engine. Forty boards are forty memories, and calls on different memories may run at the same time.
+ * The host lends memory. An engine in it takes frames (messages, cancellations of messages, clock ticks, registrations and drops of queries) and
+ * keeps, for each registered query, the ranked list of the best messages in force. Nothing is allocated, no file is read or written, and the archive
+ * keeps no memory of its own between calls: one memory is one engine. Forty boards are forty memories, and calls on different memories may run at
+ * the same time.
  *
  * In every call a slice is a pointer to bytes and their number. It may stand at any address. Where the number is 0 the pointer may be null.
  * In what a call writes into lent output, a number takes four bytes, the most significant first; the readers at the end of this file take them out.
@@ -63,32 +64,35 @@ enum {
     FENNELRAKE_MESSAGE = 1,
     FENNELRAKE_TICK = 2,
     FENNELRAKE_REGISTER = 3,
-    FENNELRAKE_DROP = 4
+    FENNELRAKE_DROP = 4,
+    FENNELRAKE_CANCEL = 5
 };
 
 /* ---- what a call returns */
 
 enum {
     FENNELRAKE_ACCEPTED = 0,
-    FENNELRAKE_REFUSED_SHORT = 1,       /* a frame of fewer than 5 bytes */
-    FENNELRAKE_REFUSED_KIND = 2,        /* the kind is none of the four */
-    FENNELRAKE_REFUSED_LENGTH = 3,      /* a frame longer or shorter than its fields need */
-    FENNELRAKE_REFUSED_FILL = 4,        /* a bit after the frame's last field is one */
-    FENNELRAKE_REFUSED_VALUE = 5,       /* a count or weight of 0; in writer and readings a value outside its range */
-    FENNELRAKE_REFUSED_ORDER = 6,       /* terms that don't rise from pair to pair */
-    FENNELRAKE_REFUSED_TIME = 7,        /* a time below the clock */
-    FENNELRAKE_REFUSED_SERIAL = 8,      /* the serial of a message in force */
-    FENNELRAKE_REFUSED_IN_USE = 9,      /* a registration under a number in use */
-    FENNELRAKE_REFUSED_NOT_IN_USE = 10, /* a drop or reading of a number not in use, numbers above 31 included */
-    FENNELRAKE_REFUSED_START = 11,      /* N or T outside its range */
-    FENNELRAKE_REFUSED_MEMORY = 12      /* state memory not of its length, or output shorter than needed */
+    FENNELRAKE_REFUSED_SHORT = 1,         /* a frame of fewer than 5 bytes */
+    FENNELRAKE_REFUSED_KIND = 2,          /* the kind is none of the five */
+    FENNELRAKE_REFUSED_LENGTH = 3,        /* a frame longer or shorter than its fields need */
+    FENNELRAKE_REFUSED_FILL = 4,          /* a bit after the frame's last field is one */
+    FENNELRAKE_REFUSED_VALUE = 5,         /* a count or weight of 0; in writer and readings a value outside its range */
+    FENNELRAKE_REFUSED_ORDER = 6,         /* terms that don't rise from pair to pair */
+    FENNELRAKE_REFUSED_TIME = 7,          /* a time below the clock */
+    FENNELRAKE_REFUSED_SERIAL = 8,        /* a message with the serial of one in force */
+    FENNELRAKE_REFUSED_IN_USE = 9,        /* a registration under a number in use */
+    FENNELRAKE_REFUSED_NOT_IN_USE = 10,   /* a drop or reading of a number not in use, numbers above 31 included */
+    FENNELRAKE_REFUSED_START = 11,        /* N or T outside its range */
+    FENNELRAKE_REFUSED_MEMORY = 12,       /* state memory not of its length, or output shorter than needed */
+    FENNELRAKE_REFUSED_NOT_IN_FORCE = 13  /* a cancellation with a serial that no message in force has */
 };
 
 /* ---- the calls */
 
 /*
- * Makes the state memory a fresh engine: no message, no query, clock 0. At most `capacity` messages (N) are in force at once, each up to and
- * including the age (clock less arrival time) of `life` seconds (T). What the memory held before doesn't matter. Writes the whole state memory.
+ * Makes the state memory a fresh engine: no message, no query, clock 0. In force are those of the last `capacity` accepted messages (N) whose age
+ * (clock less arrival time) is at most `life` seconds (T) and that aren't cancelled. What the memory held before doesn't matter. Writes the whole
+ * state memory.
  *
  * Refusals, in this order:
  *   11  capacity not 1 to 256, or life not 1 to 65535
@@ -98,24 +102,29 @@ uint32_t fennelrake_start(uint8_t *state, size_t state_length, uint32_t capacity
 
 /*
  * Hands a frame to the engine. Accepted, its time becomes the clock, and messages older than T seconds leave: one of age T is still in force.
- * Then a message joins (the oldest leaving where N are in force), a query is registered, or one is dropped; a tick does no more. Every list is up to
- * date when the call returns.
+ * Then a message joins (the oldest leaving where there are N), one is cancelled, a query is registered, or one is dropped; a tick does no more. Every
+ * list is up to date when the call returns.
+ *
+ * A cancelled message isn't in force any more, and its serial may be used again at once. It goes on filling its place among the N until it would have
+ * left: so N messages are in force only where none of the last N accepted was cancelled.
  *
  * Writes FENNELRAKE_FRAME_ANSWER_SIZE bytes: the marks and the departures. Bit q of the marks (worth 2 to the q) is set exactly where the frame
  * registers or drops query q, or a message that arrives or leaves has, in one of the query's terms, an impact above the threshold that the engine
  * kept for it. The list of a query that isn't marked is as it was; that of a marked one may have changed. Departures are how many messages were in
- * force before the frame and aren't after it.
+ * force before the frame and aren't after it: by their age, for N or cancelled. A message leaves once: one that was cancelled marks nothing and is no
+ * departure when its place is taken or its age is past T.
  *
  * Refusals, in this order; a refused frame doesn't move the clock:
  *   12  state_length is not FENNELRAKE_STATE_SIZE, or answer_length is below FENNELRAKE_FRAME_ANSWER_SIZE
  *    1  fewer than 5 bytes
- *    2  a kind other than the four
+ *    2  a kind other than the five
  *    3  not as many bytes as the fields need, or too few to tell
  *    4  a bit after the last field is one
  *    5  a count or a weight, of any pair, is 0
  *    6  terms don't rise
  *    7  the time is below the clock
- *    8  the serial is that of a message in force at the frame's time, even of one that would leave for N
+ *    8  in a message, the serial is that of one in force at the frame's time, even of one that would leave for N
+ *   13  in a cancellation, the serial is that of none in force at the frame's time
  *    9  the number to register is in use
  *   10  the number to drop isn't in use
  *
@@ -124,6 +133,7 @@ uint32_t fennelrake_start(uint8_t *state, size_t state_length, uint32_t capacity
  *   tick      4 kind (2), 32 time
  *   register  4 kind (3), 32 time, 5 number, 4 k less one, 3 pairs less one, then for each pair 10 term, 4 weight
  *   drop      4 kind (4), 32 time, 5 number
+ *   cancel    4 kind (5), 32 time, 20 serial
  */
 uint32_t fennelrake_frame(uint8_t *state, size_t state_length, const uint8_t *bytes, size_t bytes_length, uint8_t *answer, size_t answer_length);
 
@@ -162,6 +172,7 @@ uint64_t fennelrake_postings(const uint8_t *state, size_t state_length, uint32_t
  *   FENNELRAKE_TICK      time
  *   FENNELRAKE_REGISTER  time, number, k, pairs, terms, amounts (weights)
  *   FENNELRAKE_DROP      time, number
+ *   FENNELRAKE_CANCEL    time, serial
  * The others may be anything; slices that aren't looked at may be null with length 0.
  *
  * Terms are two bytes each, the higher byte first (fennelrake_put_term puts one); amounts are one byte each. The first `pairs` of both are the
@@ -171,7 +182,7 @@ uint64_t fennelrake_postings(const uint8_t *state, size_t state_length, uint32_t
  * bytes. No engine is asked: whether time, serial and number suit one is judged when the frame is handed to it.
  *
  * Refusals, in this order:
- *    2  a kind other than the four
+ *    2  a kind other than the five
  *    5  a value outside its range: serial above 1048575; number above 31; k not 1 to 16; pairs not 1 to 16 in a message or 1 to 8 in a
  *       registration, or more than the terms or the amounts lent (a last odd byte of terms is no term); and in any pair a term above 1023, a
  *       count of 0, a weight not 1 to 15. A time may be any number.

@@ -134,7 +134,7 @@ static void frames(void)
     frame_length = sizeof tick;
     frame[4] = 0x81;
     EXPECT(handed(), FENNELRAKE_REFUSED_FILL);
-    frame[0] = 0x50;
+    frame[0] = (FENNELRAKE_CANCEL + 1) << 4;
     EXPECT(handed(), FENNELRAKE_REFUSED_KIND);
 
     /* two pairs: the first count's last bit is bit 77, and the second term's bit 87 */
@@ -151,7 +151,7 @@ static void writing(void)
     uint64_t r;
 
     EXPECT(written(0, 0, 0, 0, 0, 0), FENNELRAKE_REFUSED_KIND);
-    EXPECT(written(FENNELRAKE_DROP + 1, 0, FENNELRAKE_SERIALS, 0, 0, 0), FENNELRAKE_REFUSED_KIND);
+    EXPECT(written(FENNELRAKE_CANCEL + 1, 0, FENNELRAKE_SERIALS, 0, 0, 0), FENNELRAKE_REFUSED_KIND);
     EXPECT(written(FENNELRAKE_MESSAGE, 0, FENNELRAKE_SERIALS, 0, 0, 1), FENNELRAKE_REFUSED_VALUE);
     EXPECT(written(FENNELRAKE_MESSAGE, 0, 0, 0, 0, 0), FENNELRAKE_REFUSED_VALUE);
     EXPECT(written(FENNELRAKE_MESSAGE, 0, 0, 0, 0, FENNELRAKE_MOST_PAIRS + 1), FENNELRAKE_REFUSED_VALUE);
@@ -164,6 +164,9 @@ static void writing(void)
     EXPECT(written(FENNELRAKE_REGISTER, 0, 0, FENNELRAKE_QUERIES - 1, FENNELRAKE_LIST_PLACES, FENNELRAKE_MOST_QUERY_TERMS), FENNELRAKE_ACCEPTED);
     EXPECT(written(FENNELRAKE_DROP, 0, 0, FENNELRAKE_QUERIES, 0, 0), FENNELRAKE_REFUSED_VALUE);
     EXPECT(written(FENNELRAKE_DROP, 0, 0, FENNELRAKE_QUERIES - 1, 0, 0), FENNELRAKE_ACCEPTED);
+    EXPECT(written(FENNELRAKE_CANCEL, 0, FENNELRAKE_SERIALS, 0, 0, 0), FENNELRAKE_REFUSED_VALUE);
+    EXPECT(written(FENNELRAKE_CANCEL, UINT32_MAX, FENNELRAKE_SERIALS - 1, FENNELRAKE_QUERIES, 0, 0), FENNELRAKE_ACCEPTED);
+    EXPECT(frame_length, 7);
 
     /* terms and amounts: the range of a term, of a weight and of a count; 5 in a later pair comes before 6 in an earlier one */
     fennelrake_put_term(terms, 1, FENNELRAKE_TERMS);
@@ -243,9 +246,21 @@ static void passage(void)
         EXPECT(fennelrake_list_score(list, i), 3 * FENNELRAKE_TOP_IMPACT);
     }
 
-    /* all leave with one tick, which empties the list */
+    /* the newest is cancelled: the list and the postings begin with the one before it, and its serial is free */
+    EXPECT(fed(FENNELRAKE_CANCEL, 2, 1000 + FENNELRAKE_MOST_MESSAGES - 1, 0, 0, 0), FENNELRAKE_ACCEPTED);
+    EXPECT(fennelrake_marks(reply), UINT32_C(0x80000000));
+    EXPECT(fennelrake_departures(reply), 1);
+    EXPECT(fed(FENNELRAKE_CANCEL, 2, 1000 + FENNELRAKE_MOST_MESSAGES - 1, 0, 0, 0), FENNELRAKE_REFUSED_NOT_IN_FORCE);
+    EXPECT(fennelrake_list(state, FENNELRAKE_STATE_SIZE, FENNELRAKE_QUERIES - 1, list, FENNELRAKE_LIST_ANSWER_SIZE), FENNELRAKE_ACCEPTED);
+    EXPECT(fennelrake_list_serial(list, 0), 1000 + FENNELRAKE_MOST_MESSAGES - 2);
+    EXPECT(fennelrake_postings(state, FENNELRAKE_STATE_SIZE, term, postings, FENNELRAKE_POSTINGS_SIZE), FENNELRAKE_MOST_POSTINGS - 1);
+    EXPECT(fennelrake_posting_serial(postings, 0), 1000 + FENNELRAKE_MOST_MESSAGES - 2);
+    EXPECT(fed(FENNELRAKE_MESSAGE, 2, 1000 + FENNELRAKE_MOST_MESSAGES - 1, 0, 0, 1), FENNELRAKE_ACCEPTED);
+    EXPECT(fennelrake_departures(reply), 1);
+
+    /* all leave with one tick, which empties the list; the cancelled one has departed already */
     EXPECT(fed(FENNELRAKE_TICK, 2000, 0, 0, 0, 0), FENNELRAKE_ACCEPTED);
-    EXPECT(fennelrake_departures(reply), FENNELRAKE_MOST_MESSAGES);
+    EXPECT(fennelrake_departures(reply), FENNELRAKE_MOST_MESSAGES - 1);
     for (i = 0; i < 40; i++)
         EXPECT(fennelrake_marked(reply, i), i == FENNELRAKE_QUERIES - 1);
     EXPECT(fennelrake_marked(reply, UINT32_MAX), 0);

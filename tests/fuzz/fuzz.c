@@ -160,10 +160,16 @@ static const uint8_t *slot(const uint8_t *s, uint32_t j)
     return s + 4 * (SLOTS + SLOT * (j % PLACES));
 }
 
-/* Message i in force, the oldest being message 0. */
+/* Message i of those that fill a place, the oldest being message 0. */
 static const uint8_t *message(const uint8_t *s, uint32_t i)
 {
     return slot(s, word(s, OLDEST) + i);
+}
+
+/* A cancelled message has no cells, and a serial that no frame can say. */
+static int cancelled(const uint8_t *m)
+{
+    return word(m, CELLS) == 0 && word(m, SERIAL) >= FENNELRAKE_SERIALS;
 }
 
 static const uint8_t *record(const uint8_t *s, uint32_t q)
@@ -208,24 +214,55 @@ static uint32_t bits(const uint8_t *bytes, size_t at, size_t width)
     return v;
 }
 
-/* The messages in force: the same as before, less those that left, and one that arrived. */
-static void check_window(const uint8_t *s, const uint8_t *f, uint32_t departures)
+/* How many of the messages before the frame are past at its time: they are the oldest. */
+static uint32_t past(const uint8_t *f)
 {
-    uint32_t kind = f[0] >> 4, time = bits(f, 4, 32), count = word(s, COUNT), held = word(old, COUNT), aged = 0, arrived = kind == FENNELRAKE_MESSAGE;
-    uint32_t i, j;
+    uint32_t n = 0;
+    while (n < word(old, COUNT) && bits(f, 4, 32) - word(message(old, n), TIME) > word(old, 1))
+        n++;
+    return n;
+}
+
+/* Which message before the frame has the serial in its bits and is in force at its time; how many there are in all where there is none. */
+static uint32_t holder(const uint8_t *f)
+{
+    uint32_t i = past(f);
+    while (i < word(old, COUNT) && word(message(old, i), SERIAL) != bits(f, 36, 20))
+        i++;
+    return i;
+}
+
+/* The messages that fill a place: the same as before, less those that left, one that arrived, and one cancelled. Returns how many left. */
+static uint32_t check_window(const uint8_t *s, const uint8_t *f, uint32_t departures)
+{
+    uint32_t kind = f[0] >> 4, time = bits(f, 4, 32), count = word(s, COUNT), held = word(old, COUNT), arrived = kind == FENNELRAKE_MESSAGE;
+    uint32_t i, j, left, in_force = 0, off = held;
 
     HOLD(word(s, 0) == word(old, 0) && word(s, 1) == word(old, 1));
     HOLD(time >= word(old, CLOCK) && word(s, CLOCK) == time);
     HOLD(word(s, OLDEST) < PLACES && count <= word(s, 0));
-    while (aged < held && time - word(message(old, aged), TIME) > word(s, 1))
-        aged++;
-    HOLD(departures == aged + (arrived && held - aged == word(s, 0)));
-    HOLD(count == held - departures + arrived);
-    for (i = 0; i < count - arrived; i++)
-        HOLD(memcmp(message(s, i), message(old, departures + i), 4 * SLOT) == 0);
+    left = past(f);
+    left += arrived && held - left == word(s, 0);
+    HOLD(count == held - left + arrived);
+    if (kind == FENNELRAKE_CANCEL) {
+        off = holder(f);
+        HOLD(off < held);
+    }
+    for (i = 0; i < left; i++)
+        in_force += !cancelled(message(old, i));
+    HOLD(departures == in_force + (off < held));
+    for (i = left; i < held; i++) {
+        const uint8_t *m = message(s, i - left), *was = message(old, i);
+        if (i == off) {
+            HOLD(word(m, TIME) == word(was, TIME) && word(m, SERIAL) == word(was, SERIAL) + FENNELRAKE_SERIALS * word(was, CELLS) && cancelled(m));
+            HOLD(memcmp(m + 4 * CELL, was + 4 * CELL, 4 * (SLOT - CELL)) == 0);
+        } else {
+            HOLD(memcmp(m, was, 4 * SLOT) == 0);
+        }
+    }
     for (i = 0; i < count; i++)
         for (j = 0; j < i; j++)
-            HOLD(word(message(s, i), SERIAL) != word(message(s, j), SERIAL));
+            HOLD(cancelled(message(s, i)) || word(message(s, i), SERIAL) != word(message(s, j), SERIAL));
     if (arrived) {
         const uint8_t *m = message(s, count - 1);
         uint64_t n = 0, top, w;
@@ -239,17 +276,20 @@ static void check_window(const uint8_t *s, const uint8_t *f, uint32_t departures
             HOLD(w * w * n <= top * top && (w + 1) * (w + 1) * n > top * top);
         }
     }
+    return left;
 }
 
-/* A query's mark, and what its record has of the frame's own fields. */
-static void check_mark(const uint8_t *s, const uint8_t *f, uint32_t departures, uint32_t q, int marked)
+/* A query's mark, and what its record has of the frame's own fields. A message cancelled earlier exceeds nothing, so it leaves unmarked. */
+static void check_mark(const uint8_t *s, const uint8_t *f, uint32_t left, uint32_t q, int marked)
 {
     uint32_t kind = f[0] >> 4, i;
     const uint8_t *r = record(s, q), *was = record(old, q);
     int named = (kind == FENNELRAKE_REGISTER || kind == FENNELRAKE_DROP) && bits(f, 36, 5) == q, reached = 0;
 
-    for (i = 0; i < departures; i++)
+    for (i = 0; i < left; i++)
         reached |= exceeds(message(old, i), was);
+    if (kind == FENNELRAKE_CANCEL)
+        reached |= exceeds(message(old, holder(f)), was);
     if (kind == FENNELRAKE_MESSAGE)
         reached |= exceeds(message(s, word(s, COUNT) - 1), was);
     HOLD(marked == (named || reached));
@@ -309,7 +349,7 @@ static void check_thresholds(const uint8_t *s, uint32_t q)
 {
     const uint8_t *r = record(s, q);
     uint32_t n = word(r, N), entries = word(r, ENTRIES), sum = 0, i, j;
-    uint8_t in_force[PLACES] = {0};
+    uint8_t filled[PLACES] = {0};
 
     if (word(r, K) == 0)
         return;
@@ -325,10 +365,10 @@ static void check_thresholds(const uint8_t *s, uint32_t q)
         }
     }
     for (i = 0; i < word(s, COUNT); i++)
-        in_force[(word(s, OLDEST) + i) % PLACES] = 1;
+        filled[(word(s, OLDEST) + i) % PLACES] = 1;
     for (j = 0; j < 32 * (RECORD - CANDIDATES); j++) {
         uint32_t set = word(r, CANDIDATES + j / 32) >> (31 - j % 32) & 1;
-        HOLD(set == (uint32_t)(j < PLACES && in_force[j] && exceeds(slot(s, j), r)));
+        HOLD(set == (uint32_t)(j < PLACES && filled[j] && exceeds(slot(s, j), r)));
     }
 }
 
@@ -361,8 +401,9 @@ static void check_writer(const uint8_t *f, size_t length)
     uint32_t kind = f[0] >> 4, pairs = 0, width = 8, first = 60, i, k = 0, number = 0, serial = 0;
     uint64_t r;
 
-    if (kind == FENNELRAKE_MESSAGE) {
+    if (kind == FENNELRAKE_MESSAGE || kind == FENNELRAKE_CANCEL)
         serial = bits(f, 36, 20);
+    if (kind == FENNELRAKE_MESSAGE) {
         pairs = bits(f, 56, 4) + 1;
     } else if (kind == FENNELRAKE_REGISTER) {
         k = bits(f, 41, 4) + 1;
@@ -420,13 +461,15 @@ static void check_any_fields(const uint8_t *f, size_t length)
     size = fennelrake_size(r);
     seen(8, found * 8 + kind);
     HOLD(found == 0 || ((found == 2 || found == 5 || found == 6 || found == 12) && size == 0));
-    HOLD((found == FENNELRAKE_REFUSED_KIND) == (kind < 1 || kind > 4));
+    HOLD((found == FENNELRAKE_REFUSED_KIND) == (kind < FENNELRAKE_MESSAGE || kind > FENNELRAKE_CANCEL));
     HOLD(size <= room && all_of(answer.bytes + size, room - size, FRESH));
     if (found != 0)
         return;
     HOLD(bits(answer.bytes, 0, 4) == kind && bits(answer.bytes, 4, 32) == time);
+    if (kind == FENNELRAKE_MESSAGE || kind == FENNELRAKE_CANCEL)
+        HOLD(bits(answer.bytes, 36, 20) == serial);
     if (kind == FENNELRAKE_MESSAGE)
-        HOLD(bits(answer.bytes, 36, 20) == serial && bits(answer.bytes, 56, 4) + 1 == pairs);
+        HOLD(bits(answer.bytes, 56, 4) + 1 == pairs);
     if (kind == FENNELRAKE_REGISTER)
         HOLD(bits(answer.bytes, 41, 4) + 1 == k && bits(answer.bytes, 45, 3) + 1 == pairs);
     if (kind == FENNELRAKE_REGISTER || kind == FENNELRAKE_DROP)
@@ -449,17 +492,21 @@ static uint32_t digest(uint32_t d, uint32_t value)
 static uint32_t checked_frame(const uint8_t *f, size_t length)
 {
     static uint8_t now[FENNELRAKE_STATE_SIZE];
-    uint32_t number, marks, departures, q, beyond = (uint32_t)(ordinal % 40);
+    uint32_t number, marks, departures, left, off = 0, q, i, kind = length > 0 ? f[0] >> 4 : 0, beyond = (uint32_t)(ordinal % 40);
 
     memcpy(old, state.bytes, state.length);
     HOLD(hand(f, length, FENNELRAKE_FRAME_ANSWER_SIZE - 1) == FENNELRAKE_REFUSED_MEMORY);
     HOLD(all_of(answer.bytes, answer.length, FRESH) && memcmp(old, state.bytes, state.length) == 0);
 
     number = hand(f, length, FENNELRAKE_FRAME_ANSWER_SIZE);
-    HOLD(number <= FENNELRAKE_REFUSED_NOT_IN_USE);
+    HOLD(number <= FENNELRAKE_REFUSED_NOT_IN_USE || number == FENNELRAKE_REFUSED_NOT_IN_FORCE);
     HOLD((number == FENNELRAKE_REFUSED_SHORT) == (length < 5));
-    HOLD(length < 5 || (number == FENNELRAKE_REFUSED_KIND) == (f[0] >> 4 < 1 || f[0] >> 4 > 4));
-    seen(0, number * 16 + (length > 0 ? f[0] >> 4 : 0));
+    HOLD(length < 5 || (number == FENNELRAKE_REFUSED_KIND) == (kind < FENNELRAKE_MESSAGE || kind > FENNELRAKE_CANCEL));
+    if (number == FENNELRAKE_REFUSED_SERIAL)
+        HOLD(kind == FENNELRAKE_MESSAGE && bits(f, 4, 32) >= word(old, CLOCK) && holder(f) < word(old, COUNT));
+    if (number == FENNELRAKE_REFUSED_NOT_IN_FORCE)
+        HOLD(kind == FENNELRAKE_CANCEL && length == 7 && bits(f, 4, 32) >= word(old, CLOCK) && holder(f) == word(old, COUNT));
+    seen(0, number * 16 + kind);
     if (number != 0) {
         HOLD(all_of(answer.bytes, answer.length, FRESH) && memcmp(old, state.bytes, state.length) == 0);
         check_any_fields(f, length);
@@ -468,9 +515,9 @@ static uint32_t checked_frame(const uint8_t *f, size_t length)
     marks = fennelrake_marks(answer.bytes);
     departures = fennelrake_departures(answer.bytes);
     memcpy(now, state.bytes, state.length);
-    check_window(now, f, departures);
+    left = check_window(now, f, departures);
     for (q = 0; q < FENNELRAKE_QUERIES; q++) {
-        check_mark(now, f, departures, q, marks >> q & 1);
+        check_mark(now, f, left, q, marks >> q & 1);
         check_list(now, q);
         check_thresholds(now, q);
         if (word(record(now, q), K) != 0)
@@ -483,6 +530,9 @@ static uint32_t checked_frame(const uint8_t *f, size_t length)
     HOLD(memcmp(now, state.bytes, state.length) == 0);
     seen(2, departures);
     seen(3, word(now, COUNT));
+    for (i = 0; i < word(now, COUNT); i++)
+        off += cancelled(message(now, i));
+    seen(9, off);
     return digest(digest(marks, departures), 1);
 }
 
@@ -535,11 +585,15 @@ void passage(const uint8_t *data, size_t size)
 
 /* ---- the target 'foreign' */
 
-/* Puts a value into a word of the state memory. The words that steer a loop are few: those at the start, and the first of a slot and a record. */
+/*
+ * Puts a value into a word of the state memory. The words that steer a loop are few: those at the start, and the first of a slot and a record. Some
+ * values are about the serial words of cancelled messages.
+ */
 static void damage(int steering, const uint8_t *how)
 {
-    static const uint32_t values[] = {0, 1, 8, 9, 15, 16, 17, 255, 256, 257, 1000, 65535, 0x7fffffff, 0x80000000, 0xfffffffe, 0xffffffff};
-    uint32_t i = (how[0] * 256u + how[1]) % (FENNELRAKE_STATE_SIZE / 4), value = values[how[2] % 16], j;
+    static const uint32_t values[] = {0, 1, 8, 9, 15, 16, 17, 255, 256, 257, 1000, 65535, 0xfffff, 0x100000, 0x1000000, 0x1100000,
+                                      0x7fffffff, 0x80000000, 0xfffffffe, 0xffffffff};
+    uint32_t i = (how[0] * 256u + how[1]) % (FENNELRAKE_STATE_SIZE / 4), value = values[how[2] % (sizeof values / sizeof values[0])], j;
 
     if (steering && how[0] < 64)
         i = how[0] % 5u;

@@ -34,13 +34,19 @@ static void put(uint32_t byte)
     made[size++] = (uint8_t)byte;
 }
 
-/* A frame after its length: few terms, serials and queries, so that much is shared; one in eight is damaged. */
+static uint32_t sent[8]; /* serials of the messages put last */
+static size_t messages;
+
+/*
+ * A frame after its length: few terms, serials and queries, so that much is shared; one in eight is damaged. As many cancel a message as send one,
+ * mostly one of the last; some send one of these serials again.
+ */
 static void put_frame(uint32_t *clock, uint32_t life)
 {
     uint8_t terms[2 * FENNELRAKE_MOST_PAIRS], amounts[FENNELRAKE_MOST_PAIRS], frame[FENNELRAKE_LONGEST_FRAME + 1] = {0};
-    uint32_t kind = below(8), time, serial, number, k, most, pairs = 0, apart = below(4) == 0 ? 120 : 6, term, length, i;
+    uint32_t kind = below(13), time, serial, number, k, most, pairs = 0, apart = below(4) == 0 ? 120 : 6, term, length, i;
 
-    kind = kind > 2 ? FENNELRAKE_MESSAGE : kind + 2;
+    kind = kind > 7 ? FENNELRAKE_CANCEL : kind > 2 ? FENNELRAKE_MESSAGE : kind + 2;
     most = kind == FENNELRAKE_MESSAGE ? FENNELRAKE_MOST_PAIRS : FENNELRAKE_MOST_QUERY_TERMS;
     for (term = below(apart); pairs < most && term < 3 * apart; term += 1 + below(apart)) {
         fennelrake_put_term(terms, pairs, (uint16_t)(term < 3 * apart - 1 ? term : FENNELRAKE_TERMS - 1));
@@ -49,6 +55,10 @@ static void put_frame(uint32_t *clock, uint32_t life)
     *clock += below(24) == 0 ? life + below(2) : below(3);
     time = *clock - (below(32) == 0);
     serial = below(below(8) == 0 ? FENNELRAKE_SERIALS : 64);
+    if (below(8) < (kind == FENNELRAKE_CANCEL ? 7 : 2))
+        serial = sent[below(8)];
+    if (kind == FENNELRAKE_MESSAGE)
+        sent[messages++ % 8] = serial;
     number = below(below(3) == 0 ? FENNELRAKE_QUERIES : 6);
     k = 1 + below(below(3) == 0 ? FENNELRAKE_LIST_PLACES : 3);
     length = fennelrake_size(
@@ -110,6 +120,8 @@ static void make(int of_passage, uint32_t most, uint32_t seed, uint32_t i)
 {
     drawn = (seed * UINT64_C(1000003) + i) * UINT64_C(0x9e3779b97f4a7c15) | 1;
     below(2);
+    memset(sent, 0, sizeof sent);
+    messages = 0;
     (of_passage ? make_passage : make_foreign)(most);
 }
 

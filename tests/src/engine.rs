@@ -229,6 +229,19 @@ pub fn state_word(bytes: &[u8], i: usize) -> u32 {
     u32::from_le_bytes(bytes[4 * i..4 * i + 4].try_into().unwrap())
 }
 
+pub struct Slot {
+    at: usize,
+    /// Its words before the cells: time, serial and size.
+    pub head: [u32; 3],
+}
+
+/// The slots of the window, oldest first.
+pub fn window(state: &[u8]) -> Vec<Slot> {
+    let (oldest, count) = (state_word(state, 3) as usize, state_word(state, 4) as usize);
+    let slot = |at: usize| Slot { at, head: [0, 1, 2].map(|i| state_word(state, 5 + 19 * at + i)) };
+    (0..count).map(|i| slot((oldest + i) % 257)).collect()
+}
+
 /// The bytes of a query's record.
 pub fn record(state: &[u8], q: usize) -> &[u8] {
     &state[4 * (4888 + 60 * q)..4 * (4888 + 60 * (q + 1))]
@@ -246,11 +259,7 @@ pub fn kept(state: &[u8], q: usize) -> Option<Kept> {
         return None;
     }
     let n = state_word(r, 1) as usize;
-    let (oldest, count) = (state_word(state, 3) as usize, state_word(state, 4) as usize);
-    let candidates = (0..count)
-        .map(|i| (oldest + i) % 257)
-        .filter(|j| state_word(r, 51 + j / 32) >> (31 - j % 32) & 1 == 1)
-        .map(|j| state_word(state, 5 + 19 * j + 1))
-        .collect();
+    let flagged = |s: &Slot| state_word(r, 51 + s.at / 32) >> (31 - s.at % 32) & 1 == 1;
+    let candidates = window(state).into_iter().filter(flagged).map(|s| s.head[1]).collect();
     Some(Kept { thresholds: (0..n).map(|i| state_word(r, 11 + i)).collect(), candidates })
 }

@@ -9,6 +9,7 @@ pub struct Message {
     pub time: u32,
     pub serial: u32,
     pub pairs: Vec<(u32, u32)>,
+    pub cancelled: bool,
 }
 
 #[derive(Debug, Clone)]
@@ -69,14 +70,24 @@ impl Log {
         Log { capacity, life, clock: 0, messages: Vec::new(), queries: vec![None; 32] }
     }
 
-    /// The places of the messages in force at a time.
-    pub fn in_force_at(&self, time: u32) -> Vec<usize> {
+    /// The messages that fill a place at a time, cancelled or not, by where they stand in the log.
+    pub fn filled_at(&self, time: u32) -> Vec<usize> {
         let first = self.messages.len().saturating_sub(self.capacity);
         (first..self.messages.len()).filter(|&i| time - self.messages[i].time <= self.life).collect()
     }
 
+    /// Those of them that are in force.
+    pub fn in_force_at(&self, time: u32) -> Vec<usize> {
+        self.filled_at(time).into_iter().filter(|&i| !self.messages[i].cancelled).collect()
+    }
+
     pub fn in_force(&self) -> Vec<&Message> {
         self.in_force_at(self.clock).into_iter().map(|i| &self.messages[i]).collect()
+    }
+
+    /// Where the message stands that is in force at a time under this serial.
+    pub fn holder(&self, serial: u32, time: u32) -> Option<usize> {
+        self.in_force_at(time).into_iter().find(|&i| self.messages[i].serial == serial)
     }
 
     pub fn judge(&self, bytes: &[u8]) -> Result<Frame, u32> {
@@ -85,7 +96,8 @@ impl Log {
             return Err(7);
         }
         match &f {
-            Frame::Message { time, serial, .. } if self.in_force_at(*time).iter().any(|&i| self.messages[i].serial == *serial) => Err(8),
+            Frame::Message { time, serial, .. } if self.holder(*serial, *time).is_some() => Err(8),
+            Frame::Cancel { time, serial } if self.holder(*serial, *time).is_none() => Err(13),
             Frame::Register { number, .. } if self.queries[*number].is_some() => Err(9),
             Frame::Drop { number, .. } if self.queries[*number].is_none() => Err(10),
             _ => Ok(f),
@@ -99,13 +111,17 @@ impl Log {
         let mut arrived = Vec::new();
         match f {
             Frame::Message { time, serial, pairs } => {
-                let m = Message { time: *time, serial: *serial, pairs: pairs.clone() };
+                let m = Message { time: *time, serial: *serial, pairs: pairs.clone(), cancelled: false };
                 self.messages.push(m.clone());
                 arrived.push(m);
             }
             Frame::Tick { .. } => {}
             Frame::Register { number, k, terms, .. } => self.queries[*number] = Some(Query { k: *k, terms: terms.clone() }),
             Frame::Drop { number, .. } => self.queries[*number] = None,
+            Frame::Cancel { time, serial } => {
+                let at = self.holder(*serial, *time).expect("an accepted frame cancels a message in force");
+                self.messages[at].cancelled = true;
+            }
         }
         let after = self.in_force_at(self.clock);
         let departed = before.iter().filter(|i| !after.contains(i)).map(|&i| self.messages[i].clone()).collect();

@@ -1,6 +1,7 @@
-//! Random passages made to suit a log: besides ordinary frames, ones refused under each number from 1 to 10 in turn, frames handed again, serials
-//! used again, also of a message in its last second or that leaves by the frame, twins of messages, and times on which messages leave. Every number
-//! is met so whatever the seed; rarer things may not be.
+//! Random passages made to suit a log: besides ordinary frames, ones refused under each number of ORDER in turn, frames handed again, serials used
+//! again, also of a message in its last second, that leaves by the frame or that was cancelled and still fills its place, cancellations of messages
+//! that are in force and of ones that aren't any more, twins of messages, and times on which messages leave. Every number is met so whatever the
+//! seed; rarer things may not be.
 
 use crate::paper::{Frame, Log};
 use crate::random::Random;
@@ -17,7 +18,12 @@ pub struct Style {
     pub step: u64,
     /// One frame in so many comes a life after the one before, or in the last second of the oldest message in force; or a second later.
     pub jump: u64,
+    /// So many frames cancel a message for every 18 that send one.
+    pub cancels: u64,
 }
+
+/// The refusals of a frame, in the order in which they are judged.
+pub const ORDER: [u32; 11] = [1, 2, 3, 4, 5, 6, 7, 8, 13, 9, 10];
 
 /// One frame in so many is made to be refused.
 const HOSTILE: usize = 16;
@@ -26,13 +32,14 @@ pub struct Source {
     r: Random,
     style: Style,
     made: usize,
-    turn: u32,
+    /// Which of ORDER comes next.
+    turn: usize,
     last: Vec<u8>,
 }
 
 impl Source {
     pub fn new(style: Style, seed: u64) -> Self {
-        Source { r: Random::new(seed), style, made: 0, turn: 1, last: Vec::new() }
+        Source { r: Random::new(seed), style, made: 0, turn: 0, last: Vec::new() }
     }
 
     /// The next frame of a passage that the log has taken in so far.
@@ -40,9 +47,10 @@ impl Source {
         self.made += 1;
         if self.made % HOSTILE == 0 {
             // a log that can't refuse so yet is asked again later
-            if let Some(bytes) = self.refused(log, self.turn) {
-                assert_eq!(log.judge(&bytes).err(), Some(self.turn), "{bytes:02x?} was made to be refused");
-                self.turn = self.turn % 10 + 1;
+            let number = ORDER[self.turn];
+            if let Some(bytes) = self.refused(log, number) {
+                assert_eq!(log.judge(&bytes).err(), Some(number), "{bytes:02x?} was made to be refused");
+                self.turn = (self.turn + 1) % ORDER.len();
                 return bytes;
             }
         }
@@ -87,38 +95,56 @@ impl Source {
 
     fn frame(&mut self, log: &Log, time: u32, kind: Option<u32>) -> Frame {
         let (r, s) = (&mut self.r, &self.style);
-        let kind = kind.unwrap_or_else(|| match r.below(24) {
+        let kind = kind.unwrap_or_else(|| match r.below(24 + s.cancels) {
             0 | 1 => 2,
             2..=4 => 3,
             5 => 4,
-            _ => 1,
+            6..=23 => 1,
+            _ => 5,
         });
         let number = r.below(s.queries) as usize;
+        let earlier = |r: &mut Random, last: usize| picked(r, log.messages.len().saturating_sub(last)..log.messages.len());
+        let ends = |&i: &usize| time >= log.messages[i].time && time - log.messages[i].time >= s.life;
+        let ending = |r: &mut Random| log.in_force_at(log.clock).into_iter().find(ends).filter(|_| r.one_in(4));
+        // a frame of an earlier time is refused for that, so any serial will do
+        let now = time.max(log.clock);
         match kind {
             1 => {
-                let earlier = |r: &mut Random, last: usize| {
-                    let n = log.messages.len().min(last);
-                    (n > 0).then(|| &log.messages[log.messages.len() - 1 - r.below(n as u64) as usize])
+                let cancelled = |r: &mut Random| picked(r, log.filled_at(now).into_iter().filter(|&i| log.messages[i].cancelled));
+                let old = match r.below(8) {
+                    0 => earlier(r, 2 * log.capacity),
+                    1 | 2 => cancelled(r),
+                    _ => None,
                 };
-                let ending = log.in_force().into_iter().find(|m| time >= m.time && time - m.time >= s.life).filter(|_| r.one_in(4));
-                let old = if ending.is_some() || !r.one_in(8) { ending } else { earlier(r, 2 * log.capacity) };
+                let old = ending(r).or(old);
                 let twin = if r.one_in(6) { earlier(r, 20) } else { None };
                 Frame::Message {
                     time,
-                    serial: old.map_or(r.below(s.serials) as u32, |m| m.serial),
-                    pairs: twin.map_or_else(|| rising(r, 16, s.terms, s.counts), |m| m.pairs.clone()),
+                    serial: old.map_or(r.below(s.serials) as u32, |i| log.messages[i].serial),
+                    pairs: twin.map_or_else(|| rising(r, 16, s.terms, s.counts), |i| log.messages[i].pairs.clone()),
                 }
             }
             2 => Frame::Tick { time },
             3 => Frame::Register { time, number, k: 1 + r.below(16) as usize, terms: rising(r, 8, s.terms, 15) },
-            _ => Frame::Drop { time, number },
+            4 => Frame::Drop { time, number },
+            _ => {
+                let old = match r.below(8) {
+                    0..=4 => picked(r, log.in_force_at(now)),
+                    5 => earlier(r, 1),
+                    6 => earlier(r, 2 * log.capacity),
+                    _ => None,
+                };
+                let old = ending(r).or(old);
+                Frame::Cancel { time, serial: old.map_or(r.below(s.serials) as u32, |i| log.messages[i].serial) }
+            }
         }
     }
 
-    /// A frame to which this number applies, and of the lower ones none; higher ones may apply too. None where the log has nothing to refuse it for.
+    /// A frame to which this number applies, and none that is judged before it; later ones may apply too. None where the log has nothing to refuse it
+    /// for.
     fn refused(&mut self, log: &Log, number: u32) -> Option<Vec<u8>> {
-        let mut also = [false; 11];
-        for n in number..=10 {
+        let mut also = [false; 14];
+        for n in ORDER.into_iter().skip_while(|n| *n != number) {
             also[n as usize] = n == number || self.r.one_in(3);
         }
         let kind = match number {
@@ -126,22 +152,23 @@ impl Source {
             8 => 1,
             9 => 3,
             10 => 4,
-            _ => 1 + self.r.below(4) as u32,
+            13 => 5,
+            _ => 1 + self.r.below(5) as u32,
         };
         let mut time = log.clock.saturating_add(self.r.below(self.style.step + 1) as u32);
         if also[7] {
             time = log.clock.checked_sub(1 + self.r.below(5) as u32).or(log.clock.checked_sub(1)).or((number != 7).then_some(time))?;
         }
         let mut f = self.frame(log, time, Some(kind));
-        let r = &mut self.r;
-        let picked = |r: &mut Random, from: Vec<usize>| (!from.is_empty()).then(|| from[r.below(from.len() as u64) as usize]);
-        let in_use = |used: bool| (0..32).filter(|&q| log.queries[q].is_some() == used).collect::<Vec<_>>();
+        let (r, now) = (&mut self.r, time.max(log.clock));
+        let in_use = |used: bool| (0..32).filter(move |&q| log.queries[q].is_some() == used);
         match &mut f {
-            Frame::Message { serial, .. } if also[8] => match picked(r, log.in_force_at(time.max(log.clock))) {
+            Frame::Message { serial, .. } if also[8] => match picked(r, log.in_force_at(now)) {
                 Some(i) => *serial = log.messages[i].serial,
                 None if number == 8 => return None,
                 None => {}
             },
+            Frame::Cancel { serial, .. } if also[13] => *serial = not_in_force(r, log, now),
             Frame::Register { number: q, .. } if also[9] => match picked(r, in_use(true)) {
                 Some(i) => *q = i,
                 None if number == 9 => return None,
@@ -176,6 +203,7 @@ impl Source {
                 Frame::Tick { .. } => 36,
                 Frame::Register { terms, .. } => 48 + 14 * terms.len(),
                 Frame::Drop { .. } => 41,
+                Frame::Cancel { .. } => 56,
             };
             match (8 * bytes.len() - bits) as u64 {
                 0 if number == 4 => {
@@ -195,13 +223,31 @@ impl Source {
             }
         }
         if also[2] {
-            let kind = [0, 5, 6, 7, 8, 9, 10, 11, 12, 13, 14, 15][r.below(12) as usize];
+            let kind = [0, 6, 7, 8, 9, 10, 11, 12, 13, 14, 15][r.below(11) as usize];
             bytes[0] = kind << 4 | bytes[0] & 15;
         }
         if also[1] {
             bytes.truncate(r.below(5) as usize);
         }
         Some(bytes)
+    }
+}
+
+fn picked(r: &mut Random, from: impl IntoIterator<Item = usize>) -> Option<usize> {
+    let from: Vec<usize> = from.into_iter().collect();
+    (!from.is_empty()).then(|| from[r.below(from.len() as u64) as usize])
+}
+
+/// The serial of a message that was in force once and isn't at this time, nor another under it; or, where there is none, any other.
+fn not_in_force(r: &mut Random, log: &Log, time: u32) -> u32 {
+    let held: Vec<u32> = log.in_force_at(time).into_iter().map(|i| log.messages[i].serial).collect();
+    let last = log.messages.len().saturating_sub(2 * log.capacity)..log.messages.len();
+    match picked(r, last.filter(|&i| !held.contains(&log.messages[i].serial))).filter(|_| !r.one_in(4)) {
+        Some(i) => log.messages[i].serial,
+        None => {
+            let any = r.below(1 << 20) as u32;
+            (any..1 << 20).chain(0..any).find(|s| !held.contains(s)).expect("more serials than messages in force")
+        }
     }
 }
 

@@ -59,7 +59,7 @@ fn lengths_lent() {
     assert_eq!(engine::postings(&fresh(), 1023, 0), Ok(vec![]));
 }
 
-/// The worked frames C4 to C7.
+/// The worked frames C4 to C7, and a cancellation: no fill follows its serial.
 #[test]
 fn worked_frames() {
     let state = fresh();
@@ -72,6 +72,11 @@ fn worked_frames() {
     assert_eq!(number(&[0x40, 0, 0, 0, 0, 0]), 10);
     assert_eq!(number(&[0x30, 0, 0, 0, 0, 9, 1, 0x44, 9, 0x20]), 0);
     assert_eq!(number(&[0x10, 0, 0, 1, 0x40, 0, 2, 0, 0x14, 4]), 0);
+    assert_eq!(Frame::Cancel { time: 40, serial: 1 }.bytes(), [0x50, 0, 0, 2, 0x80, 0, 1]);
+    assert_eq!(number(&[0x50, 0, 0, 2, 0x80, 0, 1]), 13);
+    assert_eq!(number(&[0x50, 0, 0, 2, 0x80, 0]), 3);
+    assert_eq!(number(&[0x50, 0, 0, 2, 0x80, 0, 1, 0]), 3);
+    assert_eq!(number(&[0x60, 0, 0, 2, 0x80, 0, 1]), 2);
 }
 
 /// Every kind, lengths around each boundary, and bytes of one value: the engine agrees with the reader written from the document.
@@ -105,7 +110,13 @@ fn check(state: &Lent, bytes: &[u8]) {
     match Frame::read(bytes) {
         Err(want) => assert_eq!(number, want, "{bytes:02x?}"),
         Ok(f) => {
-            assert!(number == 0 || number == 10, "{f:?}: {number}");
+            // a fresh engine has nothing to drop or to cancel
+            let want = match f {
+                Frame::Drop { .. } => 10,
+                Frame::Cancel { .. } => 13,
+                _ => 0,
+            };
+            assert_eq!(number, want, "{f:?}");
             assert_eq!(f.bytes(), bytes, "one set of fields for each frame");
         }
     }
@@ -124,7 +135,7 @@ fn writer() {
         }
         let amounts: Vec<u8> = terms.iter().map(|_| if r.one_in(30) { 0 } else { 1 + r.pick(3, 255, 15) as u8 }).collect();
         let f = Fields {
-            kind: if r.one_in(20) { r.below(9) as u32 } else { 1 + r.below(4) as u32 },
+            kind: if r.one_in(20) { r.below(9) as u32 } else { 1 + r.below(5) as u32 },
             time: r.next() as u32,
             serial: r.pick(9, 1 << 32, 1 << 20) as u32,
             number: r.pick(9, 1 << 32, 32) as u32,
@@ -180,6 +191,8 @@ fn expected(f: &Fields) -> Result<Vec<u8>, u32> {
         }
         4 if f.number > 31 => return Err(5),
         4 => Frame::Drop { time: f.time, number: f.number as usize },
+        5 if f.serial > 0xf_ffff => return Err(5),
+        5 => Frame::Cancel { time: f.time, serial: f.serial },
         _ => return Err(2),
     };
     Ok(frame.bytes())
@@ -227,6 +240,7 @@ fn foreign(r: &mut Random, round: usize) -> Vec<u8> {
         let (number, terms) = (r.below(32) as usize, vec![(1, 1), (500, 15)]);
         engine::frame(&mut state, &Frame::Register { time: i, number, k: 1 + r.below(16) as usize, terms }.bytes());
         engine::frame(&mut state, &Frame::Message { time: i, serial: i, pairs: vec![(0, 1), (1, 255), (500, 1 + i), (1023, 7)] }.bytes());
+        engine::frame(&mut state, &Frame::Cancel { time: i, serial: r.below(60) as u32 }.bytes());
     }
     let mut bytes = state.bytes().to_vec();
     if round % 4 == 2 {
@@ -242,7 +256,8 @@ fn foreign(r: &mut Random, round: usize) -> Vec<u8> {
                 1 => 5 + 19 * r.below(257) + r.below(4),
                 _ => 4888 + 60 * r.below(32) + r.below(20),
             } as usize;
-            let word = [0, 1, 16, 17, 255, 256, 257, 1 << 31, u32::MAX - 1, u32::MAX][r.below(10) as usize];
+            // the serial word of a cancelled message, too: 1, 16 and 17 times 2 to the 20
+            let word = [0, 1, 16, 17, 255, 256, 257, 1 << 20, 16 << 20, 17 << 20, 1 << 31, u32::MAX - 1, u32::MAX][r.below(13) as usize];
             bytes[4 * i..4 * i + 4].copy_from_slice(&u32::to_le_bytes(word));
         }
     }
@@ -253,11 +268,12 @@ fn foreign(r: &mut Random, round: usize) -> Vec<u8> {
 fn frame(r: &mut Random) -> Vec<u8> {
     let time = [u32::MAX, r.next() as u32, r.below(200) as u32][r.below(3) as usize];
     let number = r.below(32) as usize;
-    let f = match r.below(5) {
+    let f = match r.below(6) {
         0 => Frame::Tick { time },
         1 => Frame::Register { time, number, k: 1 + r.below(16) as usize, terms: vec![(1, 1), (500, 15)] },
         2 => Frame::Drop { time, number },
         3 => Frame::Message { time, serial: r.below(1 << 20) as u32, pairs: vec![(0, 1), (1, 255), (1023, 7)] },
+        4 => Frame::Cancel { time, serial: r.pick(4, 1 << 20, 60) as u32 },
         _ => {
             let n = r.pick(4, 256, 45) as usize;
             return r.bytes(n);
@@ -271,7 +287,7 @@ fn frame(r: &mut Random) -> Vec<u8> {
 fn foreign_output() {
     let mut r = Random::new(14);
     for _ in 0..5000 {
-        let kind = r.pick(9, 1 << 32, 5) as u32;
+        let kind = r.pick(9, 1 << 32, 6) as u32;
         let n = 1 + r.below(if kind == 3 { 8 } else { 16 });
         let mut terms: Vec<u16> = (0..n).map(|_| r.below(1024) as u16).collect();
         terms.sort_unstable();

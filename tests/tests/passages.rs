@@ -4,7 +4,7 @@
 use fennelrake_tests::engine::{self, Lent, Reply, STATE};
 use fennelrake_tests::paper::{Frame, Log, Message, Query, TOP};
 use fennelrake_tests::random::Random;
-use fennelrake_tests::source::{Source, Style};
+use fennelrake_tests::source::{Source, Style, ORDER};
 
 fn setting(name: &str, otherwise: u64) -> u64 {
     std::env::var(name).map_or(otherwise, |v| v.parse().unwrap_or_else(|_| panic!("{name} must be a number, and is '{v}'")))
@@ -48,9 +48,32 @@ enum Event {
     SerialASecondLater,
     /// A message leaves for N in its last second.
     LastSecondCutForN,
+    /// A message is cancelled: in any way, in its last second, with a frame by which others age, and while another that was cancelled under the same
+    /// serial still fills its place.
+    Cancelled,
+    CancelledInItsLastSecond,
+    CancelledAsOthersAge,
+    CancelledUnderOneSerial,
+    /// It is listed by a query; reaches one that doesn't list it; and shares a term with one that it doesn't reach.
+    ListedCancelled,
+    UnlistedCancelled,
+    UnreachedByACancellation,
+    /// 13, by the last message that had the serial: it is cancelled and fills its place, aged, in force until this frame's time, or pushed out for N;
+    /// or no message ever had it.
+    CancelledTwice,
+    CancelledPast,
+    CancelledASecondLate,
+    CancelledPushedOut,
+    CancelledUnknown,
+    /// A message arrives under the serial of a cancelled one that fills its place.
+    SerialOfACancelledOne,
+    /// A cancelled message leaves its place; and does so while a query lists another of its serial.
+    CancelledLeavingByAge,
+    CancelledLeavingForN,
+    CancelledLeavingItsSerialListed,
 }
 
-const EVENTS: [Event; 26] = [
+const EVENTS: [Event; 42] = [
     Event::SerialUsedAgain,
     Event::TwoInOneSecond,
     Event::LeavingAsOneArrives,
@@ -77,17 +100,56 @@ const EVENTS: [Event; 26] = [
     Event::SerialInItsLastSecond,
     Event::SerialASecondLater,
     Event::LastSecondCutForN,
+    Event::Cancelled,
+    Event::CancelledInItsLastSecond,
+    Event::CancelledAsOthersAge,
+    Event::CancelledUnderOneSerial,
+    Event::ListedCancelled,
+    Event::UnlistedCancelled,
+    Event::UnreachedByACancellation,
+    Event::CancelledTwice,
+    Event::CancelledPast,
+    Event::CancelledASecondLate,
+    Event::CancelledPushedOut,
+    Event::CancelledUnknown,
+    Event::SerialOfACancelledOne,
+    Event::CancelledLeavingByAge,
+    Event::CancelledLeavingForN,
+    Event::CancelledLeavingItsSerialListed,
 ];
 
-#[derive(Default)]
 struct Met {
-    numbers: [usize; 13],
+    numbers: [usize; 14],
     events: [usize; EVENTS.len()],
 }
 
 impl Met {
+    fn nothing() -> Self {
+        Met { numbers: [0; 14], events: [0; EVENTS.len()] }
+    }
+
     fn note(&mut self, event: Event, met: bool) {
         self.events[event as usize] += met as usize;
+    }
+}
+
+/// What an accepted frame did.
+struct Step<'a> {
+    f: &'a Frame,
+    departed: &'a [Message],
+    /// Messages cancelled earlier that filled a place until now.
+    cleared: Vec<Message>,
+    marks: u32,
+}
+
+impl Step<'_> {
+    fn is_marked(&self, q: usize) -> bool {
+        self.marks >> q & 1 == 1
+    }
+
+    /// The message that it cancelled.
+    fn cancelled(&self) -> Option<&Message> {
+        self.departed.iter().find(|m| m.cancelled)
     }
 }
 
@@ -105,7 +167,7 @@ impl Passage {
     fn new(capacity: u32, life: u32) -> Self {
         let mut state = Lent::new(&vec![0x5a; STATE]);
         assert_eq!(engine::start(&mut state, capacity, life), 0);
-        Passage { state, log: Log::new(capacity as usize, life), met: Met::default(), dropped: [false; 32], fell_short: [false; 32], last: Vec::new() }
+        Passage { state, log: Log::new(capacity as usize, life), met: Met::nothing(), dropped: [false; 32], fell_short: [false; 32], last: Vec::new() }
     }
 
     /// Hands a frame to both and compares all that is promised of it.
@@ -126,28 +188,67 @@ impl Passage {
         };
         assert_eq!(reply.number, 0, "{f:?}");
         let lists: Vec<Vec<(u32, u32)>> = queries.iter().map(|q| q.as_ref().map_or(Vec::new(), |q| self.log.ranking(q))).collect();
+        let filled = self.log.filled_at(self.log.clock);
         let (departed, arrived) = self.log.accept(&f);
         assert_eq!(reply.departures as usize, departed.len(), "{f:?}");
         for q in 0..32 {
             self.compare_marks(q, &f, &before, queries[q].as_ref(), departed.iter().chain(&arrived), reply.marks >> q & 1 == 1);
             self.compare_kept(q);
         }
-        self.note(&f, &departed, &queries, reply.marks);
+        self.compare_window();
+        let stay = self.log.filled_at(self.log.clock);
+        let cleared = filled.iter().filter(|i| !stay.contains(i)).map(|&i| self.log.messages[i].clone()).filter(|m| m.cancelled).collect();
+        let step = Step { f: &f, departed: &departed, cleared, marks: reply.marks };
+        self.note(&step, &queries);
+        self.note_cancelled(&step);
         for q in 0..32 {
-            self.note_list(q, &f, &departed, &lists[q]);
+            self.note_list(q, &step, &lists[q]);
         }
         reply
     }
 
     fn note_refused(&mut self, bytes: &[u8], number: u32) {
-        if let (8, Ok(Frame::Message { time, serial, .. })) = (number, Frame::read(bytes)) {
-            let met = self.log.in_force().iter().any(|m| time - m.time == self.log.life && m.serial == serial);
-            self.met.note(Event::SerialInItsLastSecond, met);
+        let (log, met) = (&self.log, &mut self.met);
+        match (number, Frame::read(bytes)) {
+            (8, Ok(Frame::Message { time, serial, .. })) => {
+                met.note(Event::SerialInItsLastSecond, log.in_force().iter().any(|m| time - m.time == log.life && m.serial == serial));
+            }
+            (13, Ok(Frame::Cancel { time, serial })) => {
+                let Some(at) = log.messages.iter().rposition(|m| m.serial == serial) else {
+                    met.note(Event::CancelledUnknown, true);
+                    return;
+                };
+                let (m, pushed_out) = (&log.messages[at], log.messages.len() - at > log.capacity);
+                let past = time - m.time > log.life;
+                met.note(Event::CancelledTwice, m.cancelled && !past && !pushed_out);
+                met.note(Event::CancelledPast, !m.cancelled && past && !pushed_out);
+                met.note(Event::CancelledASecondLate, time - m.time == log.life + 1 && log.holder(serial, log.clock).is_some());
+                met.note(Event::CancelledPushedOut, !m.cancelled && !past && pushed_out);
+            }
+            _ => {}
         }
     }
 
-    fn note(&mut self, f: &Frame, departed: &[Message], queries: &[Option<Query>], marks: u32) {
-        let life = self.log.life;
+    fn note_cancelled(&mut self, step: &Step) {
+        let (log, met) = (&self.log, &mut self.met);
+        if let Some(m) = step.cancelled() {
+            let same = |&&i: &&usize| log.messages[i].cancelled && log.messages[i].serial == m.serial;
+            met.note(Event::Cancelled, true);
+            met.note(Event::CancelledInItsLastSecond, log.clock - m.time == log.life);
+            met.note(Event::CancelledAsOthersAge, step.departed.len() > 1);
+            met.note(Event::CancelledUnderOneSerial, log.filled_at(log.clock).iter().filter(same).count() > 1);
+        }
+        let (aged, cut): (Vec<&Message>, Vec<&Message>) = step.cleared.iter().partition(|m| log.clock - m.time > log.life);
+        met.note(Event::CancelledLeavingByAge, !aged.is_empty());
+        met.note(Event::CancelledLeavingForN, !cut.is_empty());
+        if let Frame::Message { serial, .. } = step.f {
+            let filling = log.filled_at(log.clock).into_iter().map(|i| &log.messages[i]).chain(cut);
+            met.note(Event::SerialOfACancelledOne, filling.filter(|m| m.cancelled).any(|m| m.serial == *serial));
+        }
+    }
+
+    fn note(&mut self, step: &Step, queries: &[Option<Query>]) {
+        let (f, departed, life) = (step.f, step.departed, self.log.life);
         let aged = departed.iter().filter(|m| f.time() - m.time > life).count();
         match f {
             Frame::Message { serial, time, .. } => {
@@ -164,17 +265,19 @@ impl Passage {
             Frame::Tick { .. } => self.met.note(Event::SeveralLeavingByATick, aged > 1),
             Frame::Register { number, .. } => self.met.note(Event::NumberRegisteredAgain, self.dropped[*number]),
             Frame::Drop { number, .. } => self.dropped[*number] = true,
+            Frame::Cancel { .. } => {}
         }
         let moved: Vec<&Message> = departed.iter().chain(self.log.messages.last().filter(|_| matches!(f, Frame::Message { .. }))).collect();
         for q in 0..32 {
-            if let (Some(query), false) = (&queries[q], marks >> q & 1 == 1) {
+            if let (Some(query), false) = (&queries[q], step.is_marked(q)) {
                 self.met.note(Event::Skip, moved.iter().any(|m| m.score(query) > 0));
             }
         }
     }
 
     /// What the frame did to the list of a query that was registered before it and is after it.
-    fn note_list(&mut self, q: usize, f: &Frame, departed: &[Message], before: &[(u32, u32)]) {
+    fn note_list(&mut self, q: usize, step: &Step, before: &[(u32, u32)]) {
+        let (f, departed) = (step.f, step.departed);
         let named = matches!(f, Frame::Register { number, .. } | Frame::Drop { number, .. } if *number == q);
         let Some(query) = self.log.queries[q].as_ref().filter(|_| !named) else {
             self.fell_short[q] = false;
@@ -193,6 +296,14 @@ impl Passage {
             self.met.note(Event::LeavingAsAHigherArrives, full && !leaving.is_empty() && last <= score);
             self.met.note(Event::SerialOfALeavingEntry, leaving.contains(&serial));
         }
+        if let Some(m) = step.cancelled() {
+            let listed = leaving.contains(&m.serial);
+            self.met.note(Event::ListedCancelled, listed);
+            self.met.note(Event::UnlistedCancelled, !listed && departed.len() == 1 && step.is_marked(q));
+            self.met.note(Event::UnreachedByACancellation, m.score(query) > 0 && !step.is_marked(q));
+        }
+        let stays = |serial: u32| [before, &after[..]].iter().all(|list| list.iter().any(|e| e.0 == serial));
+        self.met.note(Event::CancelledLeavingItsSerialListed, step.cleared.iter().any(|m| stays(m.serial)));
         self.met.note(Event::ListFillsUp, !full && after.len() == k);
         self.met.note(Event::ListFallsShort, full && after.len() < k);
         self.met.note(Event::ListFullAgain, self.fell_short[q] && !full && after.len() == k);
@@ -210,6 +321,16 @@ impl Passage {
         if !marked {
             assert!(engine::record(before.bytes(), q) == engine::record(self.state.bytes(), q), "record of query {q} changed by {f:?}");
         }
+    }
+
+    /// The slots of the window say which messages fill a place, and which of them are cancelled.
+    fn compare_window(&self) {
+        let want = |&i: &usize| {
+            let (m, n) = (&self.log.messages[i], self.log.messages[i].pairs.len() as u32);
+            if m.cancelled { [m.time, m.serial + 1_048_576 * n, 0] } else { [m.time, m.serial, n] }
+        };
+        let want: Vec<_> = self.log.filled_at(self.log.clock).iter().map(want).collect();
+        assert_eq!(engine::window(self.state.bytes()).iter().map(|s| s.head).collect::<Vec<_>>(), want, "time, serial and size of the slots");
     }
 
     fn compare_kept(&mut self, q: usize) {
@@ -251,7 +372,7 @@ impl Passage {
 
 const ROUNDS: u64 = 2;
 
-/// Every number from 1 to 10 must be met, and every event but those that the style rules out. With another seed or fewer rounds a rare event may be
+/// Every number of ORDER must be met, and every event but those that the style rules out. With another seed or fewer rounds a rare event may be
 /// missing, so there events aren't asked for.
 fn run(style: Style, frames: usize, own_seed: u64, ruled_out: &[Event]) {
     run_from(0, style, frames, own_seed, ruled_out);
@@ -261,7 +382,7 @@ fn run(style: Style, frames: usize, own_seed: u64, ruled_out: &[Event]) {
 fn run_from(start: u32, style: Style, frames: usize, own_seed: u64, ruled_out: &[Event]) {
     let rounds = setting("FENNELRAKE_ROUNDS", ROUNDS).max(1);
     let seed = setting("FENNELRAKE_SEED", own_seed);
-    let mut met = Met::default();
+    let mut met = Met::nothing();
     for round in 0..rounds {
         println!("seed {seed}, round {round}");
         let mut source = Source::new(style, seed.wrapping_add(round));
@@ -280,8 +401,8 @@ fn run_from(start: u32, style: Style, frames: usize, own_seed: u64, ruled_out: &
     }
     println!("numbers met: {:?}, events: {:?}", met.numbers, EVENTS.iter().zip(met.events).collect::<Vec<_>>());
     assert!(met.numbers[0] > rounds as usize * frames / 3, "too few frames were accepted for the test to mean anything: {:?}", met.numbers);
-    for number in 1..=10 {
-        assert!(met.numbers[number] > 0, "no frame was refused under {number}: {:?}", met.numbers);
+    for number in ORDER {
+        assert!(met.numbers[number as usize] > 0, "no frame was refused under {number}: {:?}", met.numbers);
     }
     if seed == own_seed && rounds >= ROUNDS {
         for event in EVENTS.into_iter().filter(|e| !ruled_out.contains(e)) {
@@ -292,7 +413,7 @@ fn run_from(start: u32, style: Style, frames: usize, own_seed: u64, ruled_out: &
 
 #[test]
 fn ordinary() {
-    run(Style { capacity: 64, life: 200, terms: 40, counts: 9, serials: 4000, queries: 32, step: 3, jump: 60 }, 1500, 1, &[]);
+    run(Style { capacity: 64, life: 200, terms: 40, counts: 9, serials: 4000, queries: 32, step: 3, jump: 60, cancels: 6 }, 2000, 2, &[]);
 }
 
 #[test]
@@ -305,36 +426,47 @@ fn one_message_in_force() {
         Event::SeveralListedLeavingShort,
         Event::ArrivalEqualToLast,
         Event::ArrivalInALastSecond,
+        Event::CancelledAsOthersAge,
+        Event::CancelledUnderOneSerial,
+        Event::UnlistedCancelled,
+        Event::UnreachedByACancellation,
+        Event::CancelledLeavingItsSerialListed,
     ];
-    run(Style { capacity: 1, life: 50, terms: 6, counts: 3, serials: 4, queries: 8, step: 4, jump: 10 }, 1200, 2, &ruled_out);
+    run(Style { capacity: 1, life: 50, terms: 6, counts: 3, serials: 4, queries: 8, step: 4, jump: 10, cancels: 6 }, 1500, 2, &ruled_out);
 }
 
 #[test]
 fn a_full_ring() {
-    run(Style { capacity: 256, life: 65535, terms: 12, counts: 4, serials: 1 << 20, queries: 6, step: 1, jump: 400 }, 5000, 2, &[]);
+    run(Style { capacity: 256, life: 65535, terms: 12, counts: 4, serials: 1 << 20, queries: 6, step: 1, jump: 400, cancels: 6 }, 6500, 12, &[]);
 }
 
 #[test]
 fn one_second_of_life() {
-    let ruled_out = [Event::OldestLeavingForN, Event::LastSecondCutForN];
-    run(Style { capacity: 256, life: 1, terms: 8, counts: 3, serials: 60, queries: 12, step: 1, jump: 10 }, 1500, 4, &ruled_out);
+    let ruled_out = [Event::OldestLeavingForN, Event::LastSecondCutForN, Event::CancelledPushedOut, Event::CancelledLeavingForN];
+    run(Style { capacity: 256, life: 1, terms: 8, counts: 3, serials: 60, queries: 12, step: 1, jump: 10, cancels: 6 }, 2000, 4, &ruled_out);
 }
 
 #[test]
 fn ties() {
-    run(Style { capacity: 40, life: 300, terms: 2, counts: 1, serials: 500, queries: 10, step: 2, jump: 60 }, 1500, 5, &[]);
+    run(Style { capacity: 40, life: 300, terms: 2, counts: 1, serials: 500, queries: 10, step: 2, jump: 60, cancels: 6 }, 2000, 8, &[]);
 }
 
 #[test]
 fn extreme_counts() {
-    run(Style { capacity: 100, life: 1000, terms: 1024, counts: 255, serials: 1 << 20, queries: 32, step: 9, jump: 60 }, 3000, 6, &[]);
+    run(Style { capacity: 100, life: 1000, terms: 1024, counts: 255, serials: 1 << 20, queries: 32, step: 9, jump: 60, cancels: 6 }, 4000, 6, &[]);
 }
 
 /// The clock's last second comes about half way, and there it stays.
 #[test]
 fn up_to_the_clocks_end() {
-    let style = Style { capacity: 30, life: 90, terms: 10, counts: 4, serials: 300, queries: 12, step: 3, jump: 30 };
-    run_from(u32::MAX - 2000, style, 1500, 7, &[]);
+    let style = Style { capacity: 30, life: 90, terms: 10, counts: 4, serials: 300, queries: 12, step: 3, jump: 30, cancels: 6 };
+    run_from(u32::MAX - 2000, style, 2000, 12, &[]);
+}
+
+/// As many cancellations as messages, of few serials: most places are filled by cancelled messages, several often of one serial.
+#[test]
+fn cancelled_as_often_as_sent() {
+    run(Style { capacity: 20, life: 60, terms: 6, counts: 4, serials: 30, queries: 12, step: 2, jump: 30, cancels: 18 }, 4000, 3, &[]);
 }
 
 // ---- passages by hand: every message has term 5 once, and query 0, where there is one, lists the best 16 by it
@@ -345,6 +477,10 @@ fn message(time: u32, serial: u32) -> Vec<u8> {
 
 fn tick(time: u32) -> Vec<u8> {
     Frame::Tick { time }.bytes()
+}
+
+fn cancel(time: u32, serial: u32) -> Vec<u8> {
+    Frame::Cancel { time, serial }.bytes()
 }
 
 fn watched(capacity: u32, life: u32) -> Passage {
@@ -462,4 +598,169 @@ fn serials_around_the_ring() {
             assert_eq!(p.hand(&message(i, i - back)).number, 8, "the serial of message {}, after message {i}", i - back);
         }
     }
+}
+
+// ---- cancellations
+
+/// Frames in hexadecimal, with number and departures of each and the list of query 0 after it.
+#[test]
+fn a_passage_with_cancellations() {
+    let mut p = Passage::new(3, 100);
+    for (frame, number, departures, list) in [
+        ("30000000000901440920", 0, 0, &[][..]),
+        ("10000000a0000110140c0904", 0, 0, &[(1, 2200)]),
+        ("10000001400002001404", 0, 0, &[(1, 2200), (2, 1000)]),
+        ("10000001e000031024042801", 0, 0, &[(1, 2200), (3, 1414)]),
+        ("50000002800001", 0, 1, &[(3, 1414), (2, 1000)]),
+        ("50000002800001", 13, 0, &[(3, 1414), (2, 1000)]),
+        // serial 1 again; the cancelled message leaves for N, which is no departure
+        ("10000002900001001404", 0, 0, &[(3, 1414), (1, 1000)]),
+        ("10000002a00004002404", 0, 1, &[(4, 2000), (3, 1414)]),
+        ("50000002700003", 7, 0, &[(4, 2000), (3, 1414)]),
+        // serial 3, which arrived at 30, is past at 131; the clock stays
+        ("50000008300003", 13, 0, &[(4, 2000), (3, 1414)]),
+        ("20000008e0", 0, 2, &[(4, 2000)]),
+    ] {
+        let bytes: Vec<u8> = (0..frame.len()).step_by(2).map(|i| u8::from_str_radix(&frame[i..i + 2], 16).unwrap()).collect();
+        let reply = p.hand(&bytes);
+        assert_eq!((reply.number, reply.departures), (number, departures), "{frame}");
+        assert_eq!(engine::list(&p.state, 0).as_deref(), Ok(list), "{frame}");
+    }
+}
+
+/// What a frame that is accepted does: how many departures it tells, whether it marks query 0, and what that lists then.
+fn done(p: &mut Passage, bytes: &[u8]) -> (u32, u32, Vec<u32>) {
+    let reply = p.hand(bytes);
+    assert_eq!(reply.number, 0, "{bytes:02x?}");
+    (reply.departures, reply.marks, listed(p))
+}
+
+/// The only place: cancelled, its serial is free in the same second, and the message that takes it pushes the cancelled one out.
+#[test]
+fn the_only_message_cancelled() {
+    let mut p = watched(1, 100);
+    p.hand(&message(10, 7));
+    for _ in 0..3 {
+        assert_eq!(done(&mut p, &cancel(10, 7)), (1, 1, vec![]));
+        assert_eq!(p.hand(&cancel(10, 7)).number, 13);
+        assert_eq!(done(&mut p, &message(10, 7)), (0, 1, vec![7]));
+    }
+    assert_eq!(done(&mut p, &message(10, 8)), (1, 1, vec![8]));
+    assert_eq!(p.hand(&cancel(10, 7)).number, 13, "it left for N");
+}
+
+/// The oldest, the newest and one between, wherever the window stands in the ring: each is off the list and the postings at once, later goes for N
+/// without a departure, and the others go as ever.
+#[test]
+fn any_place_cancelled() {
+    const N: u32 = 5;
+    for (earlier, place) in [0, 250, 252, 253, 254, 255, 257].into_iter().flat_map(|e| [0, 2, N - 1].map(|p| (e, p))) {
+        let mut p = watched(N, 65535);
+        (0..earlier + N).for_each(|i| assert_eq!(p.hand(&message(i, i)).number, 0));
+        let (now, serial) = (earlier + N, earlier + place);
+        let others: Vec<u32> = (earlier..earlier + N).rev().filter(|s| *s != serial).collect();
+        assert_eq!(done(&mut p, &cancel(now, serial)), (1, 1, others));
+        p.compare_postings(5);
+        p.hand(&Frame::Register { time: now, number: 1, k: 16, terms: vec![(5, 1)] }.bytes());
+        for i in 0..N {
+            // under the cancelled one's serial first
+            let next = if i == 0 { serial } else { now + i };
+            assert_eq!(done(&mut p, &message(now, next)).0, (i != place) as u32, "{earlier} messages before, {place} cancelled, {i} leaves");
+            p.compare_postings(5);
+        }
+    }
+}
+
+/// All of a full window cancelled, from either end or at every other place first: then as many arrive under the same serials before one departs.
+#[test]
+fn every_place_cancelled() {
+    const N: u32 = 256;
+    let orders: [Vec<u32>; 3] = [(0..N).collect(), (0..N).rev().collect(), (0..N).step_by(2).chain((1..N).step_by(2)).collect()];
+    for order in orders {
+        let mut p = watched(N, 65535);
+        (0..N).for_each(|i| assert_eq!(p.hand(&message(i, i)).number, 0));
+        order.iter().for_each(|&serial| assert_eq!(p.hand(&cancel(N, serial)).departures, 1));
+        assert_eq!((listed(&p), p.log.in_force().len(), engine::window(p.state.bytes()).len()), (vec![], 0, N as usize));
+        p.compare_postings(5);
+        assert_eq!(done(&mut p, &tick(N)), (0, 0, vec![]));
+        order.iter().for_each(|&serial| assert_eq!(p.hand(&message(N, serial)).departures, 0));
+        assert_eq!(p.hand(&message(N, N)).departures, 1);
+        assert_eq!(p.hand(&cancel(N, order[0])).number, 13, "the first to arrive again left for N");
+        assert_eq!(done(&mut p, &cancel(N, order[1])).0, 1);
+    }
+}
+
+/// In its last second a message can be cancelled, in the next it can't.
+#[test]
+fn cancelled_at_age_t() {
+    for (life, arrival) in corners() {
+        let mut p = watched(3, life);
+        p.hand(&message(arrival, 2));
+        assert_eq!(p.hand(&cancel(arrival + life + 1, 2)).number, 13, "T = {life}, arrival at {arrival}");
+        assert_eq!(listed(&p), [2], "a refused frame doesn't move the clock");
+        assert_eq!(done(&mut p, &cancel(arrival + life, 2)), (1, 1, vec![]), "T = {life}, arrival at {arrival}");
+        assert_eq!(done(&mut p, &tick(arrival + life + 1)), (0, 0, vec![]), "its going is no departure");
+    }
+}
+
+/// Messages that age with the frame that cancels another, and cancelled ones that age with others: only those in force until then are counted.
+#[test]
+fn cancelled_as_others_age() {
+    let mut p = watched(8, 100);
+    for (time, serial) in [(10, 1), (10, 2), (10, 3), (20, 4), (20, 5), (30, 6)] {
+        p.hand(&message(time, serial));
+    }
+    assert_eq!(done(&mut p, &cancel(30, 2)), (1, 1, vec![6, 5, 4, 3, 1]));
+    assert_eq!(done(&mut p, &cancel(111, 5)), (3, 1, vec![6, 4]), "1 and 3 age, and 5 is cancelled");
+    assert_eq!(done(&mut p, &cancel(111, 4)), (1, 1, vec![6]));
+    assert_eq!(done(&mut p, &tick(121)), (0, 0, vec![6]), "only cancelled ones leave");
+    assert_eq!(done(&mut p, &message(131, 6)), (1, 1, vec![6]), "6 ages, and its serial is used again");
+}
+
+/// The greatest serial with every number of pairs, cancelled again and again in one second, so that all those places are of one serial. Serial 0, which
+/// came before them, stays in force.
+#[test]
+fn the_greatest_serial_cancelled() {
+    const LAST: u32 = 1_048_575;
+    let mut p = watched(20, 100);
+    p.hand(&message(10, 0));
+    for n in 1..=16 {
+        let pairs = (0..n).map(|i| (5 + 60 * i, 255)).collect();
+        p.hand(&Frame::Message { time: 10, serial: LAST, pairs }.bytes());
+        assert_eq!(p.hand(&message(10, LAST)).number, 8);
+        assert_eq!(done(&mut p, &cancel(10, LAST)), (1, 1, vec![0]), "{n} pairs");
+    }
+    assert_eq!(p.hand(&cancel(10, LAST)).number, 13);
+    assert_eq!(done(&mut p, &message(10, LAST)), (0, 1, vec![LAST, 0]));
+    assert_eq!(done(&mut p, &tick(111)), (2, 1, vec![]));
+}
+
+/// In a full window one of each pair of neighbours is cancelled: as messages arrive, every other arrival pushes a message in force out.
+#[test]
+fn cancelled_in_a_full_window() {
+    const N: u32 = 256;
+    let mut p = watched(N, 65535);
+    (0..N).for_each(|i| assert_eq!(p.hand(&message(i, i)).number, 0));
+    (0..N).step_by(2).for_each(|i| assert_eq!(p.hand(&cancel(N, i)).departures, 1));
+    for i in 0..N {
+        assert_eq!(p.hand(&message(N + i, N + i)).departures, i % 2, "message {i} leaves for N");
+    }
+    assert_eq!(p.log.in_force().len(), N as usize);
+}
+
+/// With k 1 and weight 1 the only tight threshold is one below the listed score: a message below it is cancelled without a mark, one that equals the
+/// listed one but came earlier is above it, and with the listed one's going the next best is listed.
+#[test]
+fn cancelled_below_the_threshold() {
+    let mut p = Passage::new(8, 100);
+    p.hand(&Frame::Register { time: 0, number: 0, k: 1, terms: vec![(5, 1)] }.bytes());
+    let less = |serial| Frame::Message { time: 10, serial, pairs: vec![(5, 1), (6, 1)] }.bytes();
+    p.hand(&less(1));
+    p.hand(&less(2));
+    p.hand(&message(10, 3));
+    p.hand(&message(10, 4));
+    assert_eq!(done(&mut p, &cancel(10, 1)), (1, 0, vec![4]));
+    assert_eq!(done(&mut p, &cancel(10, 3)), (1, 1, vec![4]));
+    assert_eq!(done(&mut p, &cancel(10, 4)), (1, 1, vec![2]));
+    assert_eq!(engine::list(&p.state, 0), Ok(vec![(2, 707)]));
 }

@@ -2,7 +2,7 @@
 
 use fennelrake_tests::engine::{self, Lent, STATE};
 use fennelrake_tests::paper::{Frame, Log};
-use fennelrake_tests::source::{Source, Style};
+use fennelrake_tests::source::{Source, Style, ORDER};
 use std::fmt::Write as _;
 use std::io::{BufRead, BufReader, Read, Write};
 use std::path::PathBuf;
@@ -54,6 +54,10 @@ fn register(time: u32, number: usize, k: usize, terms: &[(u32, u32)]) -> Vec<u8>
     Frame::Register { time, number, k, terms: terms.to_vec() }.bytes()
 }
 
+fn cancel(time: u32, serial: u32) -> Vec<u8> {
+    Frame::Cancel { time, serial }.bytes()
+}
+
 fn drop_query(time: u32, number: usize) -> Vec<u8> {
     Frame::Drop { time, number }.bytes()
 }
@@ -86,7 +90,8 @@ fn cut_frames() {
         (&[255, 0x20, 0, 0, 7, 0x80], "1 0 00000000 0\n"),
         (&[4, 0x20, 0, 0, 7, 0x80], "1 1 00000000 0\n2 1 00000000 0\n"),
         (&[6, 0x20, 0, 0, 7, 0x80, 0], "1 3 00000000 0\n"),
-        (&[9, 0x50, 0, 0, 0, 0], "1 2 00000000 0\n"),
+        (&[9, 0x60, 0, 0, 0, 0], "1 2 00000000 0\n"),
+        (&[7, 0x50, 0, 0, 0, 0, 0], "1 3 00000000 0\n"),
     ] {
         let all = [&[2, 0, 0x64], rest].concat();
         assert_eq!(session(&all), want, "{all:02x?}");
@@ -113,6 +118,31 @@ fn dropping() {
     // a departure reaches another query by the same frame
     let frames = [register(0, 0, 2, &[(5, 1)]), register(0, 9, 2, &[(5, 3)]), message(0, 8, &[(5, 1)]), drop_query(101, 0)];
     let want = "1 0 00000001 0\nQ 0 0\n2 0 00000200 0\nQ 9 0\n3 0 00000201 0\nQ 0 1 8 1000\nQ 9 1 8 3000\n4 0 00000201 1\nQ 9 0\n";
+    assert_eq!(session(&input(3, 100, &frames)), want);
+}
+
+/// Messages cancelled, their serials used again, pushed out and past. Each of them has an impact above every threshold that is safe for the list
+/// before it moves, so the marks don't depend on which the engine chose.
+#[test]
+fn cancelling() {
+    let frames = [
+        register(0, 0, 2, &[(5, 1), (9, 2)]),
+        message(10, 1, &[(5, 3), (9, 4)]),
+        message(20, 2, &[(5, 1)]),
+        message(30, 3, &[(9, 1), (40, 1)]),
+        cancel(40, 1),
+        cancel(40, 1),
+        message(41, 1, &[(5, 1)]),
+        message(42, 4, &[(9, 1)]),
+        cancel(39, 3),
+        cancel(131, 3),
+        tick(142),
+        cancel(142, 4),
+        tick(143),
+    ];
+    let want = "1 0 00000001 0\nQ 0 0\n2 0 00000001 0\nQ 0 1 1 2200\n3 0 00000001 0\nQ 0 2 1 2200 2 1000\n4 0 00000001 0\nQ 0 2 1 2200 3 1414\n\
+                5 0 00000001 1\nQ 0 2 3 1414 2 1000\n6 13 00000000 0\n7 0 00000001 0\nQ 0 2 3 1414 1 1000\n8 0 00000001 1\nQ 0 2 4 2000 3 1414\n\
+                9 7 00000000 0\n10 13 00000000 0\n11 0 00000001 2\nQ 0 1 4 2000\n12 0 00000001 1\nQ 0 0\n13 0 00000000 0\n";
     assert_eq!(session(&input(3, 100, &frames)), want);
 }
 
@@ -235,7 +265,7 @@ fn compare(style: Style, count: usize, seed: u64) {
     }
     assert!(got == want, "the session prints {} bytes and should {}", got.len(), want.len());
     let met = |word: usize, what: &str| want.lines().any(|l| l.starts_with('Q') == (word == 2) && l.split(' ').nth(word) == Some(what));
-    for number in 0..=10 {
+    for number in [0].into_iter().chain(ORDER) {
         assert!(met(1, &number.to_string()), "number {number} isn't in the passage");
     }
     for entries in [0, 1, 16] {
@@ -245,17 +275,17 @@ fn compare(style: Style, count: usize, seed: u64) {
 
 #[test]
 fn random_passage() {
-    compare(Style { capacity: 64, life: 200, terms: 40, counts: 9, serials: 4000, queries: 32, step: 3, jump: 60 }, 4000, 21);
+    compare(Style { capacity: 64, life: 200, terms: 40, counts: 9, serials: 4000, queries: 32, step: 3, jump: 60, cancels: 6 }, 4000, 21);
 }
 
 #[test]
 fn random_passage_of_many_messages() {
-    compare(Style { capacity: 256, life: 9000, terms: 12, counts: 4, serials: 1 << 20, queries: 6, step: 1, jump: 300 }, 3000, 22);
+    compare(Style { capacity: 256, life: 9000, terms: 12, counts: 4, serials: 1 << 20, queries: 6, step: 1, jump: 300, cancels: 6 }, 3000, 22);
 }
 
 #[test]
 fn random_passage_of_ties() {
-    compare(Style { capacity: 40, life: 300, terms: 2, counts: 1, serials: 500, queries: 10, step: 2, jump: 60 }, 3000, 23);
+    compare(Style { capacity: 40, life: 300, terms: 2, counts: 1, serials: 500, queries: 10, step: 2, jump: 60, cancels: 18 }, 3000, 23);
 }
 
 // ---- long inputs

@@ -3,7 +3,7 @@ use Prim.Native.Nat.{ℕ, zero, suc, _+_, _-_, _%_, _≤_, _<_}
 use native.Mathlib.Nat.{not-suc-le-zero}
 use native.Mathlib.Omega.{arith}
 use mathlib.Core.Path.{_≡_, refl, sym, ap, ap₂, _∙_}
-use mathlib.Core.Bool.{Bool, true, false, cond, _||_}
+use mathlib.Core.Bool.{Bool, true, false, cond, _||_, false≢true}
 use mathlib.Core.Logic.{inl, inr}
 use mathlib.Core.List.{List, [], _∷_, _++_, map, append-assoc, append-nil}
 use lib.Seq.{take-nil}
@@ -11,7 +11,7 @@ use lib.Dec.{eqb, ltb}
 use borrow.Author.Tests.{ltb-true, lt-ltb, eqb-true, eqb-false}
 use Rattle.paper.specs.Frame.{Pair, Pairs, countWidth, mostPairs}
 use Rattle.paper.specs.Impact.{impactIn, scoreBy, score}
-use Rattle.paper.specs.Order.{In}
+use Rattle.paper.specs.Order.{In, Ordered}
 use Rattle.paper.specs.Rank.{Query, Line, Entry, entry, line, lines, ranking}
 use Rattle.paper.specs.Sort.{select, inserts}
 use Rattle.paper.specs.Sound.{Messages}
@@ -19,15 +19,16 @@ use Rattle.paper.specs.Threshold.{exceeds, exceedsBy, reached}
 use Rattle.paper.specs.Window.{Message}
 use Rattle.paper.specs.Layout.{slots}
 use Rattle.paper.proofs.RankLaws.{ranking-more}
-use Rattle.paper.proofs.SortLaws.{select-map}
-use Rattle.paper.proofs.Tests.{and-true}
+use Rattle.paper.proofs.SortLaws.{select-map, select-select}
+use Rattle.paper.proofs.Tests.{by-bool, and-true}
 use Rattle.paper.proofs.ThresholdLaws.{score-agree, exceeds-agree, score-most, exceeds-either, exceeds-none}
 use Rattle.impact.specs.Cell.{cellsOf, lookup}
 use Rattle.impact.proofs.CellLaws.{lookup-cells, rising-cells}
 use Rattle.rank.specs.Listing.{grown}
 use Rattle.rank.proofs.PaperLaws.{lines-grown}
-use Rattle.window.specs.Slot.{Slot, slot, stored, next, ring, window}
+use Rattle.window.specs.Slot.{Slot, slot, stored, next, ring, live}
 use Rattle.window.specs.Table.{highest, greatest}
+use Rattle.window.proofs.SlotLaws.{silent-cells, live-in}
 use Rattle.window.proofs.TableLaws.{highest-lookup}
 use Rattle.candidates.specs.Match.{scoreCells, exceedsCells, reachedSlots, scored}
 use Rattle.candidates.specs.Flags.{inRing}
@@ -127,7 +128,7 @@ pub ring-test : (o n j : ℕ) → j < slots → ltb (away o j) n ≡ inRing o n 
 unfolding inRing
 ring-test o n j h = rw (lt-ltb j slots h)
 
-pub near : (o n j : ℕ) → inRing o n j ≡ true → away o j < n
+near : (o n j : ℕ) → inRing o n j ≡ true → away o j < n
 unfolding inRing
 near o n j e = ltb-true (away o j) n (and-true (ltb j slots) (ltb (away o j) n) e .1)
 
@@ -155,6 +156,22 @@ ring-in o (suc n) j h k e = go (eqb j o) refl (ring-in (next o) n j (omega arith
         let ne = eqb-false j o q in
         inr (ih (in-near (next o) n j k (omega arith)))
 
+-- no slot stands twice in a window
+pub ring-apart : (o n : ℕ) → o < slots → n < slots → Ordered (λ i j. i ≡ j → ⊥) (ring o n)
+unfolding ring inRing
+ring-apart o zero h k = tt
+ring-apart o (suc n) h k = (
+  λ j m e. let a = near (next o) n j (in-ring (next o) n j (omega arith) m .1) in omega arith,
+  ring-apart (next o) n (omega arith) (omega arith),
+)
+
+-- whoever exceeds a threshold is live
+pub exceeds-live : (w : List ℕ) (j : ℕ) (qs : List Pair) (hs : List ℕ) → exceedsCells qs hs (slot w j .cells) ≡ true → ltb 0 (slot w j .size) ≡ true
+unfolding lookup
+exceeds-live w j qs hs e =
+    by-bool (ltb 0 (slot w j .size)) (λ l. l)
+    (λ s. absurd (false≢true (sym (ap (exceedsCells qs hs) (silent-cells w j s) ∙ exceeds-none (λ t. lookup t []) (λ t. refl) qs hs) ∙ e)))
+
 -- ---- the slots that a test takes
 
 -- two tests that agree on a list select the same of it
@@ -163,9 +180,18 @@ unfolding select
 select-agree s t [] h = refl
 select-agree {A} s t (x ∷ xs) h = ap₂ (λ (b : Bool) (r : List A). cond b (x ∷ r) r) (h x (inl refl)) (select-agree s t xs (λ y m. h y (inr m)))
 
-pub taken-slots : (w : List ℕ) (o n : ℕ) (qs : List Pair) (hs : List ℕ) (test : ℕ → Bool)
-    → ((j : ℕ) → In j (ring o n) → test j ≡ exceedsCells qs hs (slot w j .cells))
-    → map (slot w) (select test (ring o n)) ≡ select (λ x. exceedsCells qs hs (x .cells)) (window w o n)
-taken-slots w o n qs hs test agrees =
-    ap (map (slot w)) (select-agree test (λ j. exceedsCells qs hs (slot w j .cells)) (ring o n) agrees)
-    ∙ sym (select-map (slot w) (λ (x : Slot). exceedsCells qs hs (x .cells)) (ring o n))
+module _ (w js : List ℕ) (qs : List Pair) (hs : List ℕ) (test : ℕ → Bool) (agrees : (j : ℕ) → In j js → test j ≡ exceedsCells qs hs (slot w j .cells)) where
+  abbrev exceeding : ℕ → Bool
+  exceeding j = exceedsCells qs hs (slot w j .cells)
+
+  agrees-live : select test (live w js) ≡ select exceeding (live w js)
+  agrees-live = select-agree test exceeding (live w js) (λ j m. agrees j (live-in w js j m .0))
+
+  -- whoever is taken is live
+  pub taken-live : select test (live w js) ≡ select test js
+  unfolding live
+  taken-live =
+      agrees-live ∙ select-select exceeding (λ j. ltb 0 (slot w j .size)) (λ j e. exceeds-live w j qs hs e) js ∙ sym (select-agree test exceeding js agrees)
+
+  pub taken-slots : map (slot w) (select test js) ≡ select (λ x. exceedsCells qs hs (x .cells)) (map (slot w) (live w js))
+  taken-slots = ap (map (slot w)) (sym taken-live ∙ agrees-live) ∙ sym (select-map (slot w) (λ (x : Slot). exceedsCells qs hs (x .cells)) (live w js))

@@ -4,7 +4,7 @@ use native.Mathlib.Nat.{mul-zero, add-zero, not-suc-le-zero, eq-or-lt-of-le, le-
 use native.Mathlib.Numerals.{add-one}
 use native.Mathlib.Omega.{arith}
 use mathlib.Core.Path.{_≡_, refl, sym, ap, ap₂, _∙_}
-use mathlib.Core.Bool.{Bool, true, false, cond, _||_}
+use mathlib.Core.Bool.{Bool, true, false, cond, _&&_, _||_, and-comm}
 use mathlib.Core.Logic.{_⊎_, inl, inr, ⊎-elim}
 use mathlib.Core.List.{List, [], _∷_, _++_, map, append-nil}
 use lib.ListN.{length, getD, set, take, drop, length-set, drop-of-length-le}
@@ -25,10 +25,12 @@ use Rattle.wire.specs.Bits.{val}
 use Rattle.paper.proofs.Tests.{by-bool, or-false}
 use Rattle.paper.proofs.SortLaws.{in-append, in-left, in-right}
 use Rattle.rank.specs.Listing.{grown}
-use Rattle.window.specs.Slot.{slot, next, ring}
+use Rattle.rank.proofs.RemovedLaws.{select-both}
+use Rattle.window.specs.Slot.{slot, next, ring, live}
 use Rattle.window.specs.Table.{termLimit}
 use Rattle.window.specs.Rows.{rowWidth, found, touches, Narrow, LookedAt}
 use Rattle.window.proofs.RingLaws.{ring-step, ring-none}
+use Rattle.window.proofs.SlotLaws.{silent-cells}
 use Rattle.candidates.specs.declared.Query.{Query}
 use Rattle.candidates.specs.Flags.{flagOf}
 use Rattle.candidates.specs.Post.{Rising, WithFlag, termsOf, lineIn, grows}
@@ -256,6 +258,21 @@ having-shares {w} {q} e = record {
   kept = e;
   silent = λ r k j z p h. shares-none q (slot w j .cells) z p h;
 }
+
+-- and a slot that isn't live has none
+pub having-live : {w : List ℕ} {q : Query} (test : ℕ → Bool) (js : List ℕ) → Having w q (select test js) (select test (live w js))
+unfolding live lookup
+having-live {w} {q} test js = record {
+  test = alive;
+  kept = select-both alive test both (λ j. refl) js ∙ sym (select-both test alive both (λ j. and-comm (alive j) (test j)) js);
+  silent = λ r k j z p h. ap (lookup (getD (q .terms) p 0)) (silent-cells w j z);
+}
+  where
+    alive : ℕ → Bool
+    alive j = ltb 0 (slot w j .size)
+
+    both : ℕ → Bool
+    both j = alive j && test j
 
 -- what is 0 in the terms scores nothing, and exceeds no threshold
 score-silent : (n : ℕ) (ts ws cs : List ℕ) → ((p : ℕ) → p < n → lookup (getD ts p 0) cs ≡ 0) → scoreCells (side-by-side n ts ws) cs ≡ 0

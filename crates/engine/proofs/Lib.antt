@@ -7,6 +7,7 @@ pub mod ListLaws
 pub mod PassedLaws
 pub mod StepLaws
 pub mod PrepareLaws
+pub mod CancelLaws
 pub mod KindLaws
 pub mod RegisterLaws
 pub mod NumberLaws

@@ -35,13 +35,13 @@ module _ {s : List ℕ} {clock t p : ℕ} {b : Bool} (e : clock ≡ getD (words 
   pub number-taken : {r : Reply} (k : ℕ) (ps : List Pair) → b ≡ true → Refusal 9 r → Did (register t p k ps) s r s
   number-taken k ps y z =
       refused-by (register t p k ps) z
-      (λ log r. judged-kind log (register t p k ps) (not-late s e h log r) ∙ ap (λ (x : Bool). cond {A = ℕ} x 9 0) (used log (words s) p r below u ∙ y))
+      (λ log r v. judged-kind log (register t p k ps) (not-late s e h log r) ∙ ap (λ (x : Bool). cond {A = ℕ} x 9 0) (used log (words s) p r below u ∙ y))
 
   -- 10: "dropping .. a number not in use"
   pub number-free : {r : Reply} → b ≡ false → Refusal 10 r → Did (unregister t p) s r s
   number-free y z =
       refused-by (unregister t p) z
-      (λ log r. judged-kind log (unregister t p) (not-late s e h log r) ∙ ap (λ (x : Bool). cond {A = ℕ} x 0 10) (used log (words s) p r below u ∙ y))
+      (λ log r v. judged-kind log (unregister t p) (not-late s e h log r) ∙ ap (λ (x : Bool). cond {A = ℕ} x 0 10) (used log (words s) p r below u ∙ y))
 
   pub register-done : {k : ℕ} {ps : List Pair} {s′ w₁ : List ℕ} {ticked reply : Reply} {clock₁ o n : ℕ} → t < 2 ^ 32 → b ≡ false → Ticked t (words s) ticked w₁
       → Loaded w₁ clock₁ o n → Registered w₁ p o n (record { k = k; terms = ps }) (words s′) → reply .number ≡ 0

@@ -1,7 +1,7 @@
 -- A posting reading: what it answers where the memory holds a log. Assumes nothing.
 use Prim.Native.Nat.{ℕ, _*_, _/_, _≤_, _<_, _^_}
 use native.Mathlib.Omega.{arith}
-use mathlib.Core.Path.{_≡_, refl, sym}
+use mathlib.Core.Path.{_≡_, refl, sym, subst}
 use mathlib.Core.Bool.{Bool, cond}
 use mathlib.Core.List.{List, map}
 use lib.ListN.{length}
@@ -9,15 +9,18 @@ use lib.Dec.{ltb, leb}
 use borrow.Author.Tests.{eq-eqb, lt-ltb, le-ltb, le-leb, lt-leb}
 use Rattle.paper.specs.Frame.{termWidth}
 use Rattle.paper.specs.Layout.{stateLength}
-use Rattle.paper.specs.Log.{Log, inForceNow, posted, judgePostings, postingLength}
+use Rattle.paper.specs.Log.{Log, inForceNow, filledNow, posted, judgePostings, postingLength}
+use Rattle.paper.specs.Sort.{select}
+use Rattle.paper.specs.Sound.{Messages}
 use Rattle.paper.proofs.LogLaws.{in-force-valid}
+use Rattle.paper.proofs.WindowLaws.{active, in-force-filled}
 use Rattle.memory.specs.Words.{words}
-use Rattle.window.specs.Slot.{stored, window}
+use Rattle.window.specs.Slot.{held, window}
 use Rattle.window.specs.Cursor.{Loaded}
 use Rattle.posting.specs.Posting.{Counted, Filled}
 use Rattle.posting.proofs.PaperLaws.{counted-postings, filled-postings}
 use Rattle.engine.specs.Represents.{Represents}
-use Rattle.engine.specs.Post.{PostingsPost}
+use Rattle.engine.specs.Post.{postedInto, PostingsPost}
 
 module _ (s : List ℕ) (t : ℕ) (out : List ℕ) where
   pub postings-not-lent : (length s ≡ stateLength → ⊥) → PostingsPost s t out (record { number = 12; count = 0 }) out
@@ -46,11 +49,18 @@ module _ (s : List ℕ) (t : ℕ) (out : List ℕ) where
 
     -- the window holds the messages in force, so what is counted and written is paper's
     module _ (h : t < 2 ^ termWidth) {clock o n found : ℕ} (l : Loaded (words s) clock o n) (c : Counted t n (window (words s) o n) found) where
-      shown : (log : Log) → Represents log (words s) → window (words s) o n ≡ map stored (inForceNow log)
+      shown : (log : Log) → Represents log (words s) → window (words s) o n ≡ map held (filledNow log)
       shown log r = rw (l .oldest-is (r .oldest-below), l .count-is (r .count-below)) (r .shows)
 
+      -- those that aren't cancelled
+      active-ones : (log : Log) → inForceNow log ≡ select active (filledNow log)
+      active-ones log = in-force-filled (log .N) (log .T) (log .clock) (log .messages)
+
+      active-valid : (log : Log) → Represents log (words s) → Messages (select active (filledNow log))
+      active-valid log r = subst Messages (active-ones log) (in-force-valid log (r .sound))
+
       counted : (log : Log) → Represents log (words s) → found ≡ length (posted log t)
-      counted log r = counted-postings t (inForceNow log) (in-force-valid log (r .sound)) (shown log r) c
+      counted log r = rw (active-ones log) (counted-postings t (filledNow log) (active-valid log r) (shown log r) c)
 
       pub postings-no-room : length out / 8 < found → PostingsPost s t out (record { number = 12; count = 0 }) out
       postings-no-room less = record {
@@ -65,6 +75,10 @@ module _ (s : List ℕ) (t : ℕ) (out : List ℕ) where
             );
       }
 
+      written : (log : Log) → Represents log (words s) → {out′ : List ℕ} → Filled t n (window (words s) o n) out out′
+          → postingLength * length (posted log t) ≤ length out → out′ ≡ postedInto log t out
+      written log r f = rw (active-ones log) (filled-postings t (filledNow log) (active-valid log r) (shown log r) f)
+
       pub postings-right : {out′ : List ℕ} → found ≤ length out / 8 → Filled t n (window (words s) o n) out out′
           → PostingsPost s t out (record { number = 0; count = found }) out′
       postings-right {out′} fits f = record {
@@ -75,6 +89,6 @@ module _ (s : List ℕ) (t : ℕ) (out : List ℕ) where
         right = λ log r _.
             let e = counted log r in (
               sym (judged log (lt-ltb t (2 ^ termWidth) (omega arith)) (le-leb (postingLength * length (posted log t)) (length out) (omega arith))),
-              λ _. (e, filled-postings t (inForceNow log) (in-force-valid log (r .sound)) (shown log r) f (omega arith)),
+              λ _. (e, written log r f (omega arith)),
             );
       }

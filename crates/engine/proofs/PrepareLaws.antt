@@ -3,19 +3,19 @@ use Prim.Native.Nat.{ℕ, _+_, _-_, _%_, _≤_, _<_}
 use native.Mathlib.Nat.{add-zero}
 use native.Mathlib.Numerals.{add-one}
 use native.Mathlib.Omega.{arith}
-use mathlib.Core.Path.{_≡_, refl, sym, ap, _∙_, subst}
-use mathlib.Core.Bool.{Bool, true, false, false≢true}
-use mathlib.Core.Logic.{_⊎_, inl, inr}
+use mathlib.Core.Path.{_≡_, sym, ap, _∙_, subst}
+use mathlib.Core.Bool.{true, false, false≢true}
+use mathlib.Core.Logic.{inr}
 use mathlib.Core.List.{List, [], _∷_, _++_, map, append-nil}
-use lib.Dec.{ltb}
-use borrow.Author.Tests.{ltb-true, ltb-false}
-use Rattle.paper.specs.Frame.{Pair}
-use Rattle.paper.specs.Frame.Frame.{message, tick}
-use Rattle.paper.specs.Window.{mostMessages}
-use Rattle.paper.specs.Layout.{slots, slotAt, slotWords, recordAt}
+use lib.ListN.{length}
+use Rattle.paper.specs.Frame.{Frame, Pair}
+use Rattle.paper.specs.Frame.Frame.{message}
+use Rattle.paper.specs.Window.{Message, arrival, mostMessages}
+use Rattle.paper.specs.Log.{timeOf, arrivals}
+use Rattle.paper.specs.Layout.{slots, recordAt}
 use Rattle.paper.specs.Order.{In}
 use Rattle.paper.proofs.SortLaws.{in-left, in-right}
-use Rattle.window.specs.Slot.{Slot, slot, ring, window}
+use Rattle.window.specs.Slot.{Slot, slot, stored, ring, window}
 use Rattle.window.specs.Cursor.{Moved, Written, PutCursor}
 use Rattle.window.proofs.RingLaws.{ring-last, moved-below, moved-end, moved-parts}
 use Rattle.window.proofs.SlotLaws.{slot-kept}
@@ -23,7 +23,7 @@ use Rattle.candidates.specs.Flags.{inRing}
 use Rattle.candidates.proofs.MatchLaws.{in-ring}
 use Rattle.query.proofs.RecordLaws.{map-agree}
 use Rattle.engine.proofs.ArrivingLaws.{arriving-one}
-use Rattle.engine.proofs.StepLaws.{Prepared, outside}
+use Rattle.engine.proofs.StepLaws.{Prepared, outside, beside}
 
 module _ (w : List ℕ) (o n o′ n′ : ℕ) (low : o < slots) (few : n < slots) (moved : Moved o n o′ n′) where
   -- both parts of the window before are the same where its slots are
@@ -38,24 +38,24 @@ module _ (w : List ℕ) (o n o′ n′ : ℕ) (low : o < slots) (few : n < slots
     left-same = map-agree (slot w′) (slot w) (ring o′ n′) (λ j i. slot-same j (in-right j (ring o (n - n′)) (ring o′ n′) i))
 
   -- no message arrives
-  pub ticked : (t : ℕ) (w′ : List ℕ) → PutCursor t o′ n′ w w′ → Prepared (tick t) w o n o′ n′ slots w′
-  ticked t w′ p =
+  pub ticked : (f : Frame) → arrivals f ≡ [] → (w′ : List ℕ) → PutCursor (timeOf f) o′ n′ w w′ → Prepared f w o n o′ n′ slots w′
+  ticked f none w′ p =
       let same : (j : ℕ) → j < slots → inRing o n j ≡ true → slot w′ j ≡ slot w j = λ j h e. slot-kept (p .keeps) j (inr (omega arith)) in
+      let size : n′ + length (arrivals f) ≡ n′ = ap (λ (l : List Message). n′ + length l) none ∙ add-zero n′ in
       record {
         long = p .keeps .long;
         capacity = p .keeps .below 0 (omega arith);
         life = p .keeps .below 1 (omega arith);
         clock = p .clock-is;
         oldest = p .oldest-is;
-        count = p .count-is ∙ sym (add-zero n′);
-        small = let c = moved .count-most in omega arith;
+        count = p .count-is ∙ sym size;
+        small = let c = moved .count-most in omega (arith, size);
         records = λ q h i l. p .keeps .above (recordAt q + i) (omega arith);
         slots-same = same;
         gone-same = gone-same w′ same;
         left-same = left-same w′ same;
-        come = refl;
-        after = ap (ring o′) (add-zero n′) ∙ sym (append-nil (ring o′ n′));
-        apart = λ h. absurd (omega arith);
+        come = ap (map stored) (sym none);
+        after = ap (ring o′) size ∙ sym (append-nil (ring o′ n′));
       }
 
   -- a slot of the window isn't the newest
@@ -63,16 +63,9 @@ module _ (w : List ℕ) (o n o′ n′ : ℕ) (low : o < slots) (few : n < slots
   not-newest j e h =
       false≢true (sym (outside o n low few) ∙ ap (inRing o n) (sym (h ∙ moved-end low moved)) ∙ e)
 
-  beside : (j k : ℕ) → (j ≡ k → ⊥) → (slotAt j + slotWords ≤ slotAt k) ⊎ (slotAt k + slotWords ≤ slotAt j)
-  beside j k ne = go (ltb j k) refl
-    where
-      go : (b : Bool) → ltb j k ≡ b → (slotAt j + slotWords ≤ slotAt k) ⊎ (slotAt k + slotWords ≤ slotAt j)
-      go true e = let h = ltb-true j k e in inl (omega arith)
-      go false e = let h = ltb-false j k e in inr (omega arith)
-
   -- a message arrives in the slot after the window
   pub joined : (t s : ℕ) (ps : List Pair) (w₁ w₂ : List ℕ) → n′ < mostMessages
-      → Written ((o′ + n′) % slots) (record { time = t; serial = s; pairs = ps }) w w₁ → PutCursor t o′ (n′ + 1) w₁ w₂
+      → Written ((o′ + n′) % slots) (arrival t s ps) w w₁ → PutCursor t o′ (n′ + 1) w₁ w₂
       → Prepared (message t s ps) w o n o′ n′ ((o′ + n′) % slots) w₂
   joined t s ps w₁ w₂ room a p =
       let k = (o′ + n′) % slots in
@@ -94,5 +87,4 @@ module _ (w : List ℕ) (o n o′ n′ : ℕ) (low : o < slots) (few : n < slots
         left-same = left-same w₂ same;
         come = ap (map (slot w₂)) (arriving-one k small) ∙ ap (λ (x : Slot). x ∷ []) (header k ∙ a .holds);
         after = ap (ring o′) (add-one n′) ∙ ring-last o′ n′ (moved-below low moved) ∙ ap (λ (js : List ℕ). ring o′ n′ ++ js) (sym (arriving-one k small));
-        apart = λ h. ap (inRing o n) (moved-end low moved) ∙ outside o n low few;
       }

@@ -16,13 +16,13 @@ use Rattle.paper.specs.Frame.Frame.{tick, register, unregister}
 use Rattle.paper.specs.Rank.{Query}
 use Rattle.paper.specs.Window.{Message}
 use Rattle.paper.specs.Layout.{slots, recordAt, recordWords, oldestAt, countAt, clockAt}
-use Rattle.paper.specs.Log.{Log, queryAt, inForceNow, judgeFrame, accept, departs, seen, movedFor}
+use Rattle.paper.specs.Log.{Log, queryAt, inForceNow, filledNow, judgeFrame, accept, departs, seen, movedFor}
 use Rattle.paper.specs.Sound.{Sound, Terms}
 use Rattle.paper.specs.Demand3.{reachedBy, marked, bitmap}
 use Rattle.paper.proofs.Tests.{or-false}
 use Rattle.paper.proofs.LogLaws.{accept-sound, no-query, in-force-valid}
 use Rattle.memory.specs.Keeps.{Keeps}
-use Rattle.window.specs.Slot.{slot, stored, window}
+use Rattle.window.specs.Slot.{slot, held, window}
 use Rattle.window.proofs.SlotLaws.{slot-kept, window-kept}
 use Rattle.query.specs.Record.{HoldsAt, SameRecord}
 use Rattle.query.specs.Post.{Registered, Cleared, Over}
@@ -32,7 +32,7 @@ use Rattle.engine.specs.Represents.{oldestOf, countOf, Represents, keepi
 use Rattle.engine.specs.Inner.{reachedIn, Accepted}
 use Rattle.paper.proofs.MarkLaws.{bitmap-small}
 use Rattle.engine.proofs.MarkLaws.{bitmap-same, bitmap-more}
-use Rattle.engine.proofs.RepresentsLaws.{query-terms, reached-by}
+use Rattle.engine.proofs.RepresentsLaws.{in-force-shows, query-terms, reached-by}
 
 -- ---- one record changed
 
@@ -52,7 +52,7 @@ module _ (p : ℕ) (w w′ : List ℕ) (keeps : Keeps (recordAt p) (recordAt p +
   every-slot j h = slot-kept keeps j (inl (omega arith))
 
   -- memory holds a log that differs in that query alone
-  one-record : (log log′ : Log) → Represents log w → log′ .N ≡ log .N → log′ .T ≡ log .T → log′ .clock ≡ log .clock → inForceNow log′ ≡ inForceNow log
+  one-record : (log log′ : Log) → Represents log w → log′ .N ≡ log .N → log′ .T ≡ log .T → log′ .clock ≡ log .clock → filledNow log′ ≡ filledNow log
       → seen log′ ≡ seen log → Sound log′ → ((q : ℕ) → (p ≡ q → ⊥) → queryAt log′ q ≡ queryAt log q)
       → HoldsAt w′ p (oldestOf w) (countOf w) (seen log) (queryAt log′ p) → Represents log′ w′
   one-record log log′ r eN eT ec ef es sound rest new =
@@ -66,7 +66,7 @@ module _ (p : ℕ) (w w′ : List ℕ) (keeps : Keeps (recordAt p) (recordAt p +
         capacity-most = let m = r .capacity-most in omega arith;
         oldest-below = let l = r .oldest-below in omega arith;
         count-below = let l = r .count-below in omega arith;
-        shows = ap₂ (window w′) at many ∙ window-kept keeps (inl (omega arith)) (oldestOf w) (countOf w) (r .oldest-below) ∙ r .shows ∙ ap (map stored) (sym ef);
+        shows = ap₂ (window w′) at many ∙ window-kept keeps (inl (omega arith)) (oldestOf w) (countOf w) (r .oldest-below) ∙ r .shows ∙ ap (map held) (sym ef);
         sound = sound;
         records = λ q h.
             subst₂ (λ (a b : ℕ). HoldsAt w′ q a b (seen log′) (queryAt log′ q)) (sym at) (sym many)
@@ -101,7 +101,7 @@ module _ (t p k : ℕ) (ps : List Pair) (log : Log) (w w₁ w₂ : List ℕ) (r 
   registered-accepted g em ed =
       let h = a .holds in
       let over : Over w₁ (oldestOf w₁) (countOf w₁) (inForceNow (accept log (tick t))) =
-      record { shows = h .shows; valid = in-force-valid (accept log (tick t)) (h .sound) } in
+      record { shows = in-force-shows (accept log (tick t)) w₁ h; valid = in-force-valid (accept log (tick t)) (h .sound) } in
       let none-before : marked log (keeping w) (tick t) p ≡ false = rw free in
       let more : bitmap (λ q. eqb p q || marked log (keeping w) (tick t) q) numbers ≡ ticked .marks + 2 ^ p =
       bitmap-more (marked log (keeping w) (tick t)) p numbers below none-before ∙ ap (λ (m : ℕ). m + 2 ^ p) (sym (a .marks)) in

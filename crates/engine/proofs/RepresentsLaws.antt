@@ -1,9 +1,9 @@
 -- What memory that holds a log keeps of each query. Assumes nothing.
 use Prim.Native.Nat.{ℕ, zero, suc, _<_}
 use native.Mathlib.Omega.{arith}
-use mathlib.Core.Path.{_≡_, refl, sym, _∙_, subst}
+use mathlib.Core.Path.{_≡_, refl, sym, ap, _∙_, subst}
 use mathlib.Core.Bool.{Bool, not}
-use mathlib.Core.List.{List, [], _∷_}
+use mathlib.Core.List.{List, [], _∷_, map}
 use mathlib.Core.Option.{Option, none, some}
 use lib.ListN.{length, getD}
 use lib.Dec.{eqb}
@@ -12,13 +12,23 @@ use Rattle.paper.specs.Frame.{numbers}
 use Rattle.paper.specs.Rank.{Query}
 use Rattle.paper.specs.Window.{Message}
 use Rattle.paper.specs.Layout.{recordAt}
-use Rattle.paper.specs.Log.{Log, queryAt, inUse, seen}
+use Rattle.paper.specs.Log.{Log, queryAt, inUse, inForceNow, filledNow, seen}
 use Rattle.paper.specs.Sound.{Terms, Queries}
 use Rattle.paper.specs.Demand3.{SettledAt, AllSettled, reachedBy}
+use Rattle.paper.proofs.LogLaws.{filled-valid}
+use Rattle.paper.proofs.WindowLaws.{in-force-filled}
+use Rattle.window.specs.Slot.{slot, stored, ring, live}
+use Rattle.window.proofs.LogLaws.{live-shows}
 use Rattle.query.specs.Record.{keptOf, Holds, HoldsAt}
 use Rattle.query.proofs.RecordLaws.{in-use-is}
 use Rattle.engine.specs.Represents.{oldestOf, countOf, Represents, keeping}
 use Rattle.engine.specs.Inner.{reachedIn}
+
+-- the slots in force hold the messages in force
+pub in-force-shows : (log : Log) (w : List ℕ) → Represents log w → map (slot w) (live w (ring (oldestOf w) (countOf w))) ≡ map stored (inForceNow log)
+in-force-shows log w r =
+    live-shows w (ring (oldestOf w) (countOf w)) (filledNow log) (filled-valid log (log .clock) (r .sound)) (r .shows)
+    ∙ ap (map stored) (sym (in-force-filled (log .N) (log .T) (log .clock) (log .messages)))
 
 -- a valid query at a number, of those that a log has
 pub query-terms : (qs : List (Option Query)) (n : ℕ) (q : Query) → Queries qs → getD qs n none ≡ some q → Terms q
@@ -32,7 +42,7 @@ module _ (w : List ℕ) (q : ℕ) (ms : Query → List Message) where
   -- whether the record is in use is whether it starts with 0
   first-is : (x : Option Query) → ((y : Query) → x ≡ some y → Terms y) → HoldsAt w q (oldestOf w) (countOf w) ms x
       → not (eqb (getD w (recordAt q) 0) 0) ≡ inUse x
-  first-is = in-use-is w q (oldestOf w) (countOf w) ms
+  first-is = in-use-is w w q (oldestOf w) (countOf w) ms
 
   pub kept-none : HoldsAt w q (oldestOf w) (countOf w) ms none → keeping w q ≡ none
   unfolding keeping

@@ -10,15 +10,15 @@ use lib.Seq.{getD-set-same, getD-set-other, drop-length}
 use lib.Dec.{eqb, leb, ltb}
 use borrow.Author.Tests.{ltb-true, leb-true, eq-eqb, ne-eqb}
 use Rattle.paper.specs.Frame.{numbers}
-use Rattle.paper.specs.Log.{fresh, inForceNow, judgeStart, inRanges, seen}
+use Rattle.paper.specs.Log.{fresh, filledNow, judgeStart, inRanges, seen}
 use Rattle.paper.specs.Rank.{Query}
-use Rattle.paper.specs.Window.{inForce, mostMessages, longestLife}
+use Rattle.paper.specs.Window.{filled, mostMessages, longestLife}
 use Rattle.paper.specs.Layout.{stateLength, recordAt, stateWords, capacityAt, lifeAt, clockAt, oldestAt, countAt}
 use Rattle.paper.proofs.Tests.{and-true}
 use Rattle.paper.proofs.LogLaws.{fresh-sound}
 use Rattle.memory.specs.Words.{fours, words, putWord}
 use Rattle.memory.proofs.WordLaws.{put-word, put-length}
-use Rattle.window.specs.Slot.{ring, stored, window}
+use Rattle.window.specs.Slot.{ring, held, window}
 use Rattle.query.specs.Record.{HoldsAt}
 use Rattle.engine.specs.Represents.{Represents, oldestOf, countOf}
 use Rattle.engine.specs.Post.{freshMemory, StartPost}
@@ -68,15 +68,15 @@ module _ (N T : ℕ) (N-least : 1 ≤ N) (N-most : N ≤ mostMessages) (T-least 
       ∙ getD-set-other (zeros stateWords) capacityAt i N 0 (λ e. omega arith)
       ∙ zeros-at stateWords i
 
-  empty-window : (w : List ℕ) (o n : ℕ) → n ≡ 0 → window w o n ≡ map stored (inForceNow (fresh N T))
-  unfolding ring inForce
+  empty-window : (w : List ℕ) (o n : ℕ) → n ≡ 0 → window w o n ≡ map held (filledNow (fresh N T))
+  unfolding ring filled
   empty-window w o n e = rw e
 
   empty-record : (q : ℕ) → HoldsAt after q (oldestOf after) (countOf after) (seen (fresh N T)) none
   empty-record q i h = rest (recordAt q + i) (omega arith)
 
-  held : Represents (fresh N T) after
-  held =
+  fresh-words-held : Represents (fresh N T) after
+  fresh-words-held =
       let l : length (zeros stateWords) ≡ stateWords = length-replicate {A = ℕ} stateWords 0 in
       let l′ : length (set (zeros stateWords) capacityAt N) ≡ length (zeros stateWords) = length-set (zeros stateWords) capacityAt N in
       record {
@@ -95,7 +95,7 @@ module _ (N T : ℕ) (N-least : 1 ≤ N) (N-most : N ≤ mostMessages) (T-least 
       }
 
   fresh-held : Represents (fresh N T) (words (freshMemory N T))
-  fresh-held = subst (Represents (fresh N T)) (sym fresh-words) held
+  fresh-held = subst (Represents (fresh N T)) (sym fresh-words) fresh-words-held
 
 -- ---- which starts are accepted
 

@@ -8,7 +8,7 @@ use lib.ListN.{length}
 use lib.Seq.{getD-set-other}
 use borrow.Author.Tests.{eqb-false}
 use Rattle.paper.specs.Frame.{Frame, numbers}
-use Rattle.paper.specs.Frame.Frame.{message, tick, register, unregister}
+use Rattle.paper.specs.Frame.Frame.{message, tick, register, unregister, cancel}
 use Rattle.paper.specs.Rank.{Query, serials}
 use Rattle.paper.specs.Window.{Message}
 use Rattle.paper.specs.Threshold.{candidates, reached}
@@ -45,6 +45,7 @@ query-stays log (message t s ps) q e = refl
 query-stays log (tick t) q e = refl
 query-stays log (register t m k ps) q e = getD-set-other (log .queries) m q (some (record { k = k; terms = ps })) none (λ h. eqb-false m q e (sym h))
 query-stays log (unregister t m) q e = getD-set-other (log .queries) m q none none (λ h. eqb-false m q e (sym h))
+query-stays log (cancel t s) q e = refl
 
 -- what an accepted frame leaves unmarked is kept as it was
 pub unmarked-kept : (log : Log) (f : Frame) (w w′ : List ℕ) (q : ℕ) → Represents log w → Represents (accept log f) w′ → judgeFrame log f ≡ 0

@@ -51,7 +51,7 @@ pub record FrameRight (log : Log) (s bytes : List ℕ) (r : Reply) (s′ : List 
   pub untouched : (q : ℕ) → q < numbers → markedBy 0 log (keeping (words s)) (callOf s bytes) q ≡ false
       → (recordBytes s′ q ≡ recordBytes s q) × (keeping (words s′) q ≡ keeping (words s) q)
 
--- "Order for a frame: state length (12), then 1 to 10." Whatever the memory holds, 12 and 1 to 6 are by the lengths and bytes alone, and
+-- "Order for a frame: state length (12), then 1 to 10", 13 in the place of 8. Whatever the memory holds, 12 and 1 to 6 are by the lengths and bytes alone, and
 -- "A refusal returns its number, all else returned is 0, and no memory changes."
 pub record FramePost (s bytes : List ℕ) (r : Reply) (s′ : List ℕ) : Type 0 where
   pub long : length s′ ≡ length s

@@ -9,10 +9,10 @@ use lib.Dec.{eqb}
 use Rattle.paper.specs.Frame.{numbers}
 use Rattle.paper.specs.Window.{mostMessages}
 use Rattle.paper.specs.Layout.{slots, stateWords, capacityAt, lifeAt, clockAt, oldestAt, countAt, recordAt, sizeIn}
-use Rattle.paper.specs.Log.{Log, queryAt, inForceNow, seen}
+use Rattle.paper.specs.Log.{Log, queryAt, filledNow, seen}
 use Rattle.paper.specs.Sound.{Sound}
 use Rattle.paper.specs.Demand3.{Keeping}
-use Rattle.window.specs.Slot.{stored, window}
+use Rattle.window.specs.Slot.{held, window}
 use Rattle.query.specs.Record.{keptOf, HoldsAt}
 
 -- the window's first slot and how many it has, as the header says
@@ -31,7 +31,7 @@ pub record Represents (log : Log) (w : List ℕ) : Type 0 where
   pub capacity-most : log .N ≤ mostMessages
   pub oldest-below : oldestOf w < slots
   pub count-below : countOf w < slots
-  pub shows : window w (oldestOf w) (countOf w) ≡ map stored (inForceNow log)
+  pub shows : window w (oldestOf w) (countOf w) ≡ map held (filledNow log)
   pub sound : Sound log
   pub records : (q : ℕ) → q < numbers → HoldsAt w q (oldestOf w) (countOf w) (seen log) (queryAt log q)
 

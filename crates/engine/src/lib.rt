@@ -5,7 +5,7 @@ ghost use mathlib.Core.List.{map};
 ghost use lib.ListN.{length, getD, replicate, take};
 ghost use Rattle.paper.specs.Frame.{Frame, numbers, termWidth, countWidth, weightWidth, mostPairs, mostTerms, mostListed};
 ghost use Rattle.paper.specs.Write.{side-by-side};
-ghost use Rattle.paper.specs.Window.{mostMessages};
+ghost use Rattle.paper.specs.Window.{mostMessages, arrival};
 ghost use Rattle.paper.specs.Layout.{stateLength, slots, capacityAt};
 ghost use Rattle.paper.specs.Log.{inRanges};
 ghost use Rattle.memory.specs.Words.{words};
@@ -14,7 +14,7 @@ ghost use Rattle.window.specs.Slot.{slot};
 ghost use Rattle.window.specs.Table.{termLimit, RaisedBy};
 ghost use Rattle.window.specs.Cursor.{Moved};
 ghost use Rattle.query.specs.Post.{arriving};
-ghost use Rattle.engine.specs.Inner.{Passed, Joined, Did, Ticked};
+ghost use Rattle.engine.specs.Inner.{Silenced, Passed, Followed, Departed, Joined, Did, Ticked};
 use frame::Kind;
 use paper::MOST_PAIRS;
 use paper::layout;
@@ -105,37 +105,59 @@ pub fn start(state: &mut [u8], capacity: u32, life: u32) -> u32
     0
 }
 
-// A table raised to the impacts of the arriving message, where there is one.
-fn raise_newest(state: &[u8], newest: usize, table: &mut [u16])
+// A table raised to the impacts of the message in slot j, where that is one.
+fn raise_one(state: &[u8], j: usize, table: &mut [u16])
     requires { ⌜ (length (now state) ≡ stateLength) × (length (now table) ≡ termLimit) ⌝ }
-    ensures { λ _. ⌜ (length (now (table .exit)) ≡ termLimit) × RaisedBy (map (slot (words (now (state .entry)))) (arriving newest)) (now (table .entry)) (now (table .exit)) ⌝ }
+    ensures { λ _. ⌜ (length (now (table .exit)) ≡ termLimit) × RaisedBy (map (slot (words (now (state .entry)))) (arriving j)) (now (table .entry)) (now (table .exit)) ⌝ }
 {
-    if newest < layout::SLOTS {
-        window::raise_all(state, newest, 1, table);
+    if j < layout::SLOTS {
+        window::raise_all(state, j, 1, table);
     }
 }
 
-// Every registered query is updated where the frame reaches it; the marks of those. What comes and what goes is looked up in tables, made once for all.
-fn update_all(state: &mut [u8], moved: Move) -> u32
+// The message in slot j is cancelled, where that is one.
+fn silence(state: &mut [u8], j: usize)
+    requires { ⌜ length (now state) ≡ stateLength ⌝ }
+    ensures { λ _. ⌜ Silenced j (words (now (state .entry))) (words (now (state .exit))) ⌝ }
+{
+    if j < layout::SLOTS {
+        window::cancel(state, j);
+    }
+}
+
+// Every registered query is updated where the frame reaches it; the marks of those.
+fn pass(state: &mut [u8], moved: Move, coming: &[u16], going: &[u16]) -> u32
     requires { ⌜ length (now state) ≡ stateLength ⌝ }
     requires { ⌜ (moved .gone < slots) × (moved .first < slots) × (moved .count < slots) ⌝ }
-    ensures { λ r. ⌜ Passed numbers (words (now (state .entry))) moved r (words (now (state .exit))) ⌝ }
+    requires { ⌜ (length (now coming) ≡ termLimit) × (length (now going) ≡ termLimit) ⌝ }
+    ensures { λ r. ⌜ Passed numbers (words (now (state .entry))) moved (now (coming .entry)) (now (going .entry)) r (words (now (state .exit))) ⌝ }
 {
-    let mut coming = [0u16; paper::TERMS];
-    let mut going = [0u16; paper::TERMS];
-    raise_newest(state, moved.newest, &mut coming);
-    window::raise_all(state, moved.gone, moved.departed, &mut going);
     let mut marks: u32 = 0;
     let mut q: usize = 0;
     while q < paper::NUMBERS {
         if query::in_use(state, q) {
-            if query::update(state, q, moved, &coming, &going) {
+            if query::update(state, q, moved, coming, going) {
                 marks += wire::pow2(q);
             }
         }
         q += 1;
     }
     marks
+}
+
+// The queries follow a move. What comes and what goes is looked up in tables, made once for all, while a cancelled message still has what it had.
+fn update_all(state: &mut [u8], moved: Move) -> u32
+    requires { ⌜ length (now state) ≡ stateLength ⌝ }
+    requires { ⌜ (moved .gone < slots) × (moved .first < slots) × (moved .count < slots) ⌝ }
+    ensures { λ r. ⌜ Followed (words (now (state .entry))) moved r (words (now (state .exit))) ⌝ }
+{
+    let mut coming = [0u16; paper::TERMS];
+    let mut going = [0u16; paper::TERMS];
+    raise_one(state, moved.newest, &mut coming);
+    window::raise_all(state, moved.gone, moved.departed, &mut going);
+    raise_one(state, moved.cancelled, &mut going);
+    silence(state, moved.cancelled);
+    pass(state, moved, &coming, &going)
 }
 
 // How many messages can be in force, at most as many as the ring has room for whatever memory holds.
@@ -165,13 +187,14 @@ fn join(
     requires { ⌜ (length (now state) ≡ stateLength) × (m ≤ mostPairs) ⌝ }
     requires { ⌜ ((i : ℕ) → i < m → (getD terms i 0 < 2 ^ termWidth) × (getD counts i 0 < 2 ^ countWidth)) ⌝ }
     requires { ⌜ (before .oldest < slots) × (before .count < slots) × (after .count < mostMessages) × Moved (before .oldest) (before .count) (after .oldest) (after .count) ⌝ }
-    ensures { λ r. ⌜ Joined (record { time = time; serial = serial; pairs = side-by-side m terms counts })
+    ensures { λ r. ⌜ Joined (arrival time serial (side-by-side m terms counts))
         (before .oldest) (before .count) (after .oldest) (after .count) (words (now (state .entry))) r (words (now (state .exit))) ⌝ }
 {
     let gone = before.oldest;
     let oldest = after.oldest;
     let count = after.count;
     let leaving = before.count - count;
+    let departures = window::in_force(state, gone, leaving);
     let newest = (oldest + count) % layout::SLOTS;
     window::put_message(state, newest, time, serial, m, terms, counts);
     window::put_cursor(state, time, oldest, count + 1);
@@ -181,12 +204,14 @@ fn join(
         first: oldest,
         count: count + 1,
         newest,
+        cancelled: layout::SLOTS,
+        serial: 0,
     };
     let marks = update_all(state, moved);
     Reply {
         number: 0,
         marks,
-        departures: leaving as u32,
+        departures: departures as u32,
     }
 }
 
@@ -216,33 +241,44 @@ fn message(
     join(state, before, after, time, serial, m, terms, counts)
 }
 
+// The window without its oldest messages, and without that of slot `cancelled`, which has this serial, where that is one; the departures of the oldest.
+fn depart(state: &mut [u8], before: Cursor, after: Cursor, cancelled: usize, serial: u32) -> Reply
+    requires { ⌜ length (now state) ≡ stateLength ⌝ }
+    requires { ⌜ (before .oldest < slots) × (before .count < slots) × Moved (before .oldest) (before .count) (after .oldest) (after .count) ⌝ }
+    ensures { λ r. ⌜ Departed (after .clock) cancelled serial (before .oldest) (before .count) (after .oldest) (after .count) (words (now (state .entry))) r (words (now (state .exit))) ⌝ }
+{
+    let gone = before.oldest;
+    let oldest = after.oldest;
+    let count = after.count;
+    let leaving = before.count - count;
+    let departures = window::in_force(state, gone, leaving);
+    window::put_cursor(state, after.clock, oldest, count);
+    let moved = Move {
+        gone,
+        departed: leaving,
+        first: oldest,
+        count,
+        newest: layout::SLOTS,
+        cancelled,
+        serial,
+    };
+    let marks = update_all(state, moved);
+    Reply {
+        number: 0,
+        marks,
+        departures: departures as u32,
+    }
+}
+
 // The clock moves on, past messages go, and the queries that they reach are updated.
 fn advance(state: &mut [u8], time: u32) -> Reply
     requires { ⌜ length (now state) ≡ stateLength ⌝ }
     ensures { λ r. ⌜ Ticked time (words (now (state .entry))) r (words (now (state .exit))) ⌝ }
 {
     let before = Cursor::load(state);
-    let gone = before.oldest;
-    let had = before.count;
     let life = memory::get(state, layout::LIFE);
     let after = before.advanced(state, life, time);
-    let oldest = after.oldest;
-    let count = after.count;
-    let departed = had - count;
-    window::put_cursor(state, time, oldest, count);
-    let moved = Move {
-        gone,
-        departed,
-        first: oldest,
-        count,
-        newest: layout::SLOTS,
-    };
-    let marks = update_all(state, moved);
-    Reply {
-        number: 0,
-        marks,
-        departures: departed as u32,
-    }
+    depart(state, before, after, layout::SLOTS, 0)
 }
 
 fn tick(state: &mut [u8], time: u32) -> Reply
@@ -307,6 +343,29 @@ fn unregister(state: &mut [u8], time: u32, number: usize) -> Reply
     }
 }
 
+// The message in force with the serial departs, and past messages with it.
+fn cancel(state: &mut [u8], time: u32, serial: u32) -> Reply
+    requires { ⌜ length (now state) ≡ stateLength ⌝ }
+    ensures { λ r. ⌜ Did (Frame.cancel time serial) (now (state .entry)) r (now (state .exit)) ⌝ }
+{
+    let before = Cursor::load(state);
+    if time < before.clock {
+        return refused(7);
+    }
+    let life = memory::get(state, layout::LIFE);
+    let after = before.advanced(state, life, time);
+    let cancelled = window::slot_of(state, after.oldest, after.count, serial);
+    if layout::SLOTS <= cancelled {
+        return refused(13);
+    }
+    let reply = depart(state, before, after, cancelled, serial);
+    Reply {
+        number: 0,
+        marks: reply.marks,
+        departures: reply.departures + 1,
+    }
+}
+
 // The first eight of a frame's terms or amounts: a query has no more.
 fn first_eight(a: [u32; MOST_PAIRS]) -> [u32; 8]
     ensures { λ r. ⌜ r ≡ take 8 a ⌝ }
@@ -348,6 +407,7 @@ pub fn frame(state: &mut [u8], bytes: &[u8]) -> Reply
             register(state, time, number as usize, k, n, few, weights)
         }
         Kind::Unregister { time, number } => unregister(state, time, number as usize),
+        Kind::Cancel { time, serial } => cancel(state, time, serial),
         Kind::Refused(r) => refused(r),
     }
 }

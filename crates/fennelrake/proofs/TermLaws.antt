@@ -92,6 +92,7 @@ module _ (x : Fields) where
   by-pairs message register =
       by-kind Cut message (rw (long-cut 0 16 (x .terms) (omega arith), beside-cut 0 16 (x .terms) (x .amounts) (omega arith)))
       register (rw (long-cut 0 16 (x .terms) (omega arith), beside-cut 0 16 (x .terms) (x .amounts) (omega arith)))
+      (rw (long-cut 0 16 (x .terms) (omega arith), beside-cut 0 16 (x .terms) (x .amounts) (omega arith)))
       (λ k none. unknown-kind (withTerms x (take 16 (x .terms))) k none ∙ sym (unknown-kind x k none))
 
   few-cut : x .pairs ≤ 16 → (k : ℕ) → Cut k

@@ -58,6 +58,7 @@ small s =
       third = field-lt s 41 4;
     })
     (record { places = lit≤ tt; narrow = (lit≤ tt, (lit≤ tt, tt)); short = lit≤ tt; light = lit≤ tt; few = lit≤ tt; third = lit< tt })
+    (record { places = lit≤ tt; narrow = (lit≤ tt, (lit≤ tt, tt)); short = lit≤ tt; light = lit≤ tt; few = lit≤ tt; third = lit< tt })
     (λ k none. subst (Small s) (sym none) (record { places = lit≤ tt; narrow = tt; short = lit≤ tt; light = lit≤ tt; few = lit≤ tt; third = lit< tt }))
 
 -- the row with a table row's fields is that row

@@ -10,13 +10,13 @@ use lib.Seq.{take-at}
 use borrow.Author.Tests.{le-leb}
 use Rattle.wire.specs.Bits.{Bytes}
 use Rattle.paper.specs.Frame.{Pair, Frame, Fields, Shape, Valid, shape, encode, mostPairs}
-use Rattle.paper.specs.Frame.Frame.{message, tick, register, unregister}
+use Rattle.paper.specs.Frame.Frame.{message, tick, register, unregister, cancel}
 use Rattle.paper.specs.Frame.Shape.{refused, accepted}
 use Rattle.paper.specs.Write.{side-by-side, fromFields, fieldsWith, pairsIn, writeNumber, bytesOf}
 use Rattle.paper.proofs.FrameLaws.{shape-valid, encode-shape}
 use Rattle.paper.proofs.WriteLaws.{Beside, fields-number, fields-read, fields-with}
 use Rattle.frame.specs.declared.Kind.{Kind}
-use Rattle.frame.specs.declared.Kind.the-variants.{Message, Tick, Register, Unregister, Refused}
+use Rattle.frame.specs.declared.Kind.the-variants.{Message, Tick, Register, Unregister, Cancel, Refused}
 use Rattle.frame.specs.declared.Parsed.{Parsed}
 use Rattle.frame.specs.declared.Written.{Written}
 use Rattle.frame.specs.Read.{ReadPost, answerOf, pairsRead, padded, termArray, amountArray}
@@ -66,6 +66,7 @@ told (Message t s m) ts us = accepted (message t s (side-by-side m ts us))
 told (Tick t) ts us = accepted (tick t)
 told (Register t n k m) ts us = accepted (register t n k (side-by-side m ts us))
 told (Unregister t n) ts us = accepted (unregister t n)
+told (Cancel t s) ts us = accepted (cancel t s)
 told (Refused r) ts us = refused r
 
 -- no frame has more pairs than the arrays have places
@@ -74,12 +75,14 @@ pairs-most (message t s ps) v = v .pairs .at-most
 pairs-most (tick t) v = omega arith
 pairs-most (register t n k ps) v = let h = v .terms .at-most in omega arith
 pairs-most (unregister t n) v = omega arith
+pairs-most (cancel t s) v = omega arith
 
 told-frame : (f : Frame) → length (pairsIn f) ≤ mostPairs → told (answerOf (accepted f)) (termArray (pairsIn f)) (amountArray (pairsIn f)) ≡ accepted f
 told-frame (message t s ps) h = ap (λ (l : List Pair). accepted (message t s l)) (beside-padded mostPairs ps h)
 told-frame (tick t) h = refl
 told-frame (register t n k ps) h = ap (λ (l : List Pair). accepted (register t n k l)) (beside-padded mostPairs ps h)
 told-frame (unregister t n) h = refl
+told-frame (cancel t s) h = refl
 
 -- the answer to bytes says their shape
 pub read-told : (bytes : List ℕ) (r : Parsed) → ReadPost (shape bytes) r → told (r .what) (r .terms) (r .amounts) ≡ shape bytes
@@ -95,6 +98,7 @@ countIn (Message t s m) = m
 countIn (Tick t) = 0
 countIn (Register t n k m) = m
 countIn (Unregister t n) = 0
+countIn (Cancel t s) = 0
 countIn (Refused r) = 0
 
 pub count-answer : (x : Shape) → countIn (answerOf x) ≡ length (pairsRead x)
@@ -102,6 +106,7 @@ count-answer (accepted (message t s ps)) = refl
 count-answer (accepted (tick t)) = refl
 count-answer (accepted (register t n k ps)) = refl
 count-answer (accepted (unregister t n)) = refl
+count-answer (accepted (cancel t s)) = refl
 count-answer (refused r) = refl
 
 -- ---- writing what was read
@@ -116,6 +121,7 @@ fields-in f r v got =
     same (tick t) ts us = refl
     same (register t n k ps) ts us = refl
     same (unregister t n) ts us = refl
+    same (cancel t s) ts us = refl
 
 -- writing what a reading answered gives the bytes that were read
 pub write-read : (s o t : List ℕ) (f : Frame) (r : Parsed) (w : Written) → Bytes s → shape s ≡ accepted f → ReadPost (shape s) r

@@ -8,11 +8,11 @@ use lib.ListN.{length, take, getD}
 use lib.Dec.{eqb, leb}
 use Rattle.wire.specs.Field.{field, total}
 use Rattle.paper.specs.Frame.{Pair, Row as TableRow, Shape, kindWidth, width, widths, frameOf, positive, rising, pairsAt, bytesFor, fillAfter, termWidth, mostPairs}
-use Rattle.paper.specs.Frame.Frame.{message, tick, register, unregister}
+use Rattle.paper.specs.Frame.Frame.{message, tick, register, unregister, cancel}
 use Rattle.paper.specs.Frame.Shape.{refused, accepted}
 use Rattle.paper.specs.Write.{pairsIn}
 use Rattle.frame.specs.declared.Kind.{Kind}
-use Rattle.frame.specs.declared.Kind.the-variants.{Message, Tick, Register, Unregister, Refused}
+use Rattle.frame.specs.declared.Kind.the-variants.{Message, Tick, Register, Unregister, Cancel, Refused}
 use Rattle.frame.specs.declared.Parsed.{Parsed}
 use Rattle.frame.specs.declared.PairList.{PairList}
 use Rattle.frame.specs.declared.Row.{Row}
@@ -23,6 +23,7 @@ answerOf (accepted (message t s ps)) = Message t s (length ps)
 answerOf (accepted (tick t)) = Tick t
 answerOf (accepted (register t n k ps)) = Register t n k (length ps)
 answerOf (accepted (unregister t n)) = Unregister t n
+answerOf (accepted (cancel t s)) = Cancel t s
 answerOf (refused r) = Refused r
 
 abbrev pub pairsRead : Shape → List Pair

@@ -10,7 +10,7 @@ use Rattle.paper.specs.Frame.{Fields, Shape, width, rowOf, termWidth, pairWidth
 use Rattle.paper.specs.Write.{side-by-side, within, allWithin, headWithin, valueOf, fieldsFor, writeNumber, bytesOf}
 use Rattle.wire.specs.Field.{spell}
 use Rattle.frame.specs.declared.Kind.{Kind}
-use Rattle.frame.specs.declared.Kind.the-variants.{Message, Tick, Register, Unregister, Refused}
+use Rattle.frame.specs.declared.Kind.the-variants.{Message, Tick, Register, Unregister, Cancel, Refused}
 use Rattle.frame.specs.declared.Parsed.{Parsed}
 use Rattle.frame.specs.declared.Written.{Written}
 use Rattle.frame.specs.Read.{pairsNumber}
@@ -32,6 +32,7 @@ fieldsBy (Message t s n) terms amounts = fields 1 t s 0 0 n terms amounts
 fieldsBy (Tick t) terms amounts = fields 2 t 0 0 0 0 terms amounts
 fieldsBy (Register t n k m) terms amounts = fields 3 t 0 n k m terms amounts
 fieldsBy (Unregister t n) terms amounts = fields 4 t 0 n 0 0 terms amounts
+fieldsBy (Cancel t s) terms amounts = fields 5 t s 0 0 0 terms amounts
 fieldsBy (Refused r) terms amounts = fields 0 0 0 0 0 0 terms amounts
 
 abbrev pub fieldsIn : Parsed → Fields

@@ -33,6 +33,10 @@ pub enum Kind {
         time: u32,
         number: u32,
     },
+    Cancel {
+        time: u32,
+        serial: u32,
+    },
     Refused(u32),
 }
 
@@ -80,6 +84,7 @@ fn row_of(kind: u32) -> Row
         2 => row_with(1, [32, 0, 0, 0, 0], 0),
         3 => row_with(4, [32, 5, 4, 3, 0], 4),
         4 => row_with(2, [32, 5, 0, 0, 0], 0),
+        5 => row_with(2, [32, 20, 0, 0, 0], 0),
         _ => row_with(0, [0, 0, 0, 0, 0], 0),
     }
 }
@@ -255,6 +260,10 @@ fn framed(kind: u32, values: [u32; 5], m: usize, terms: [u32; 16], amounts: [u32
             time,
             number: values[1],
         }),
+        5 => pairless(Kind::Cancel {
+            time,
+            serial: values[1],
+        }),
         _ => refusal(2),
     }
 }
@@ -345,6 +354,7 @@ fn values_of(kind: u32, time: u32, serial: u32, number: u32, k: u32, pairs: usiz
         2 => [time, 0, 0, 0, 0],
         3 => [time, number, less_one(k as usize), less_one(pairs), 0],
         4 => [time, number, 0, 0, 0],
+        5 => [time, serial, 0, 0, 0],
         _ => [0, 0, 0, 0, 0],
     }
 }

@@ -16,8 +16,9 @@ use Rattle.wire.specs.Field.{field, total, spell, scan, Fit}
 use Rattle.wire.proofs.BitLaws.{length-pack}
 use Rattle.wire.proofs.FieldLaws.{field-lt}
 use Rattle.wire.proofs.LayoutLaws.{scan-spell, pack-scan, total-append, scan-append, scan-parts, fit-append}
-use Rattle.paper.specs.Frame.{Pair, Frame, Shape, Pairs, AllFit, Valid, messageRow, tickRow, registerRow, unregisterRow, noRow, rowOf, widths, frameOf, termWidth, countWidth, weightWidth, mostPairs, mostTerms, pairWidths, pairValues, bitsOf, bytesFor, fillAfter, written, encode, pairsAt, positive, rises, rising, check, shapeOfKind, shape}
-use Rattle.paper.specs.Frame.Frame.{message, tick, register, unregister}
+use Rattle.paper.specs.Frame.{Pair, Frame, Shape, Pairs, AllFit, Valid, messageRow, tickRow, registerRow, unregisterRow, cancelRow, noRow, rowOf, widths, frameOf, termWidth, countWidth}
+use Rattle.paper.specs.Frame.{weightWidth, mostPairs, mostTerms, pairWidths, pairValues, bitsOf, bytesFor, fillAfter, written, encode, pairsAt, positive, rises, rising, check, shapeOfKind, shape}
+use Rattle.paper.specs.Frame.Frame.{message, tick, register, unregister, cancel}
 use Rattle.paper.specs.Frame.Shape.{refused, accepted}
 
 -- ---- pairs
@@ -186,19 +187,20 @@ module _ (s : List ℕ) (at w n : ℕ) where
 
 -- ---- the kinds
 
-pub no-row : (k : ℕ) → (k ≡ 1 → ⊥) → (k ≡ 2 → ⊥) → (k ≡ 3 → ⊥) → (k ≡ 4 → ⊥) → rowOf k ≡ noRow
+pub no-row : (k : ℕ) → (k ≡ 1 → ⊥) → (k ≡ 2 → ⊥) → (k ≡ 3 → ⊥) → (k ≡ 4 → ⊥) → (k ≡ 5 → ⊥) → rowOf k ≡ noRow
 unfolding rowOf
-no-row k a b c d = rw (ne-eqb k 1 a, ne-eqb k 2 b, ne-eqb k 3 c, ne-eqb k 4 d)
+no-row k a b c d e = rw (ne-eqb k 1 a, ne-eqb k 2 b, ne-eqb k 3 c, ne-eqb k 4 d, ne-eqb k 5 e)
 
 -- a claim about every kind, from the claims about those with a row and about the others
-pub by-kind : (P : ℕ → Type 0) → P 1 → P 2 → P 3 → P 4 → ((k : ℕ) → rowOf k ≡ noRow → P k) → (k : ℕ) → P k
-by-kind P a b c d e zero = e zero (no-row zero (λ z. omega arith) (λ z. omega arith) (λ z. omega arith) (λ z. omega arith))
-by-kind P a b c d e (suc zero) = a
-by-kind P a b c d e (suc (suc zero)) = b
-by-kind P a b c d e (suc (suc (suc zero))) = c
-by-kind P a b c d e (suc (suc (suc (suc zero)))) = d
-by-kind P a b c d e (suc (suc (suc (suc (suc k))))) =
-    e (suc (suc (suc (suc (suc k))))) (no-row _ (λ z. omega arith) (λ z. omega arith) (λ z. omega arith) (λ z. omega arith))
+pub by-kind : (P : ℕ → Type 0) → P 1 → P 2 → P 3 → P 4 → P 5 → ((k : ℕ) → rowOf k ≡ noRow → P k) → (k : ℕ) → P k
+by-kind P a b c d e f zero = f zero (no-row zero (λ z. omega arith) (λ z. omega arith) (λ z. omega arith) (λ z. omega arith) (λ z. omega arith))
+by-kind P a b c d e f (suc zero) = a
+by-kind P a b c d e f (suc (suc zero)) = b
+by-kind P a b c d e f (suc (suc (suc zero))) = c
+by-kind P a b c d e f (suc (suc (suc (suc zero)))) = d
+by-kind P a b c d e f (suc (suc (suc (suc (suc zero))))) = e
+by-kind P a b c d e f (suc (suc (suc (suc (suc (suc k)))))) =
+    f (suc (suc (suc (suc (suc (suc k)))))) (no-row _ (λ z. omega arith) (λ z. omega arith) (λ z. omega arith) (λ z. omega arith) (λ z. omega arith))
 
 -- ---- bytes to frame, kind by kind
 
@@ -224,6 +226,7 @@ kind-sound s =
     })
     (rw (e, less-one s 48 weightWidth (field s 45 3), add-sub-cancel (field s 41 4) 1)))
     (λ e. check-sound s (widths unregisterRow) 0 0 (λ _. unregister (field s 4 32) (field s 36 5)) (λ _ _. (field-lt s 4 32, field-lt s 36 5)) (rw e))
+    (λ e. check-sound s (widths cancelRow) 0 0 (λ _. cancel (field s 4 32) (field s 36 20)) (λ _ _. (field-lt s 4 32, field-lt s 36 20)) (rw e))
     (λ k none e. rw (unknown-shape s k none) (lit≤ tt, lit≤ tt))
 
 shape-sound : (s : List ℕ) → Sound s (shape s)
@@ -278,6 +281,9 @@ shape-encode (register t n k ps) v =
 shape-encode (unregister t n) v =
     accepts 4 _ 0 _ [] (λ _. unregister t n) (lit≤ tt) (lit< tt, (v .0, (v .1, tt))) tt refl refl
     (λ s e i. check s (widths unregisterRow) 0 0 (λ _. accepted (unregister (at 1 e i) (at 2 e i))))
+shape-encode (cancel t n) v =
+    accepts 5 _ 0 _ [] (λ _. cancel t n) (lit≤ tt) (lit< tt, (v .0, (v .1, tt))) tt refl refl
+    (λ s e i. check s (widths cancelRow) 0 0 (λ _. accepted (cancel (at 1 e i) (at 2 e i))))
 
 -- no frame is longer than a message of as many pairs as one can have
 pub encode-most : (f : Frame) → Valid f → length (encode f) ≤ bytesFor (bitsOf (widths messageRow) countWidth mostPairs)
@@ -287,3 +293,4 @@ encode-most (tick t) v = omega (arith, encode-length (widths tickRow) 0 (2 ∷ t
 encode-most (register t n k ps) v =
     let m = v .terms .at-most in omega (arith, encode-length (widths registerRow) weightWidth (3 ∷ t ∷ n ∷ (k - 1) ∷ (length ps - 1) ∷ []) ps)
 encode-most (unregister t n) v = omega (arith, encode-length (widths unregisterRow) 0 (4 ∷ t ∷ n ∷ []) [])
+encode-most (cancel t s) v = omega (arith, encode-length (widths cancelRow) 0 (5 ∷ t ∷ s ∷ []) [])

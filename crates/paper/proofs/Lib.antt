@@ -3,6 +3,7 @@ pub mod Tests
 pub mod ImpactLaws
 pub mod WindowLaws
 pub mod LogLaws
+pub mod CancelLaws
 pub mod SortLaws
 pub mod RankLaws
 pub mod ThresholdLaws

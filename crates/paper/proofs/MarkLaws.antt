@@ -14,7 +14,7 @@ use borrow.Author.Tests.{eqb-true, ltb-true, ltb-false}
 use Rattle.wire.specs.Bits.{val, odd}
 use Rattle.wire.proofs.BitLaws.{odd-val, odd-skip}
 use Rattle.paper.specs.Frame.{Frame, Shape, shape, numbers}
-use Rattle.paper.specs.Frame.Frame.{message, tick, register, unregister}
+use Rattle.paper.specs.Frame.Frame.{message, tick, register, unregister, cancel}
 use Rattle.paper.specs.Frame.Shape.{refused, accepted}
 use Rattle.paper.specs.Window.{Message}
 use Rattle.paper.specs.Rank.{Query}
@@ -96,6 +96,7 @@ registered-unnamed log (unregister t m) n q q′ ok b a =
     by-bool (eqb m n)
     (λ e. e ∙ sym (ap inUse a) ∙ ap (λ (i : ℕ). inUse (getD (set (log .queries) i none) n none)) (eqb-true m n e) ∙ ap inUse (emptied (log .queries) n))
     (λ e. e)
+registered-unnamed log (cancel t s) n q q′ ok b a = refl
 
 none-reaches : (x : Option Query) (y : Option Kept) → reachedBy x y (λ q. []) ≡ false
 unfolding reached

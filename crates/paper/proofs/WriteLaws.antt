@@ -9,8 +9,8 @@ use mathlib.Core.List.{List, [], _∷_, map}
 use lib.ListN.{length, length-map}
 use lib.Dec.{ltb, lit≤}
 use borrow.Author.Tests.{ltb-true, leb-true, lt-ltb, le-leb}
-use Rattle.paper.specs.Frame.{Pair, Frame, Fields, Row, Pairs, AllFit, Valid, noRow, rowOf, messageRow, tickRow, registerRow, unregisterRow, frameOf, judged, writtenBy, countWidth, weightWidth, mostPairs, mostTerms, encode, shape, positive, rises, rising}
-use Rattle.paper.specs.Frame.Frame.{message, tick, register, unregister}
+use Rattle.paper.specs.Frame.{Pair, Frame, Fields, Row, Pairs, AllFit, Valid, noRow, rowOf, messageRow, tickRow, registerRow, unregisterRow, cancelRow, frameOf, judged, writtenBy, countWidth, weightWidth, mostPairs, mostTerms, encode, shape, positive, rises, rising}
+use Rattle.paper.specs.Frame.Frame.{message, tick, register, unregister, cancel}
 use Rattle.paper.specs.Frame.Shape.{refused, accepted}
 use Rattle.paper.specs.Write.{side-by-side, allWithin, headWithin, valueOf, pairsTaken, pairsWithin, pairsOf, pairsIn, fromKind, fromFields, fieldsWith, fieldsOf}
 use Rattle.paper.proofs.FrameLaws.{or-refused, Judged, by-kind, shape-encode}
@@ -100,6 +100,7 @@ kind-sound x =
       terms = pairs-within weightWidth mostTerms m ts us (search facts) (search facts) (search facts) (search facts) (search facts) o;
     }))
     (judged-sound (headWithin (unregisterRow .head) x && pairsWithin unregisterRow x) (side-by-side 0 ts us) (unregister (x .time) (x .number)) (λ e _. (search facts, search facts)))
+    (judged-sound (headWithin (cancelRow .head) x && pairsWithin cancelRow x) (side-by-side 0 ts us) (cancel (x .time) (x .serial)) (λ e _. (search facts, search facts)))
     (λ k none. rw (unknown-kind x k none) (lit≤ tt, lit≤ tt))
 
 fields-sound : (x : Fields) → Judged 2 Valid (fromFields x)
@@ -131,6 +132,7 @@ made x =
     (λ _ n. record { frame = tick (x .time); is = refl; spelled = refl })
     (λ _ n. record { frame = register (x .time) (x .number) (x .k - 1 + 1) (pairsOf registerRow x); is = refl; spelled = rw (n, add-sub-cancel (x .k - 1) 1) })
     (λ _ n. record { frame = unregister (x .time) (x .number); is = refl; spelled = refl })
+    (λ _ n. record { frame = cancel (x .time) (x .serial); is = refl; spelled = refl })
     (λ k none h. let z : 0 < length (noRow .head) = subst (λ (row : Row). 0 < length (row .head)) none h in absurd (omega arith))
 
 -- fields in range take no more pairs than a message can have
@@ -141,6 +143,7 @@ taken-most x =
     (λ e. search facts)
     (λ _. lit≤ tt)
     (λ e. let h : x .pairs ≤ 2 ^ 3 = search facts in omega arith)
+    (λ _. lit≤ tt)
     (λ _. lit≤ tt)
     (λ k none _. subst (λ (row : Row). pairsTaken row x ≤ mostPairs) (sym none) (lit≤ tt))
 
@@ -195,6 +198,8 @@ fields-with (register t n k ps) ts us v b =
     )
 fields-with (unregister t n) ts us v b =
     rw (lt-ltb t (2 ^ 32) (v .0), lt-ltb n (2 ^ 5) (v .1), le-leb 0 (length ts) (b .terms), le-leb 0 (length us) (b .amounts))
+fields-with (cancel t s) ts us v b =
+    rw (lt-ltb t (2 ^ 32) (v .0), lt-ltb s (2 ^ 20) (v .1), le-leb 0 (length ts) (b .terms), le-leb 0 (length us) (b .amounts))
 
 pub fields-of : (f : Frame) → Valid f → fromFields (fieldsOf f) ≡ accepted f
 fields-of f v =

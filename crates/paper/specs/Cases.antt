@@ -1,10 +1,10 @@
--- The starred cases of document 01, "Worked passages", under document 02's age rule (T-01); C8, which moves with that rule; and rows for the
--- order of the refusals 1 to 6: as one table. proofs/CasesHold.antt has its one theorem.
+-- The starred cases of document 01, "Worked passages", under document 02's age rule (T-01); C8, which moves with that rule; cancellations (T-02);
+-- and rows for the order of the refusals 1 to 6: as one table. proofs/CasesHold.antt has its one theorem.
 -- Assumes nothing.
 use Prim.Native.Nat.{ℕ, suc}
 use mathlib.Core.List.{List, [], _∷_, map}
 use Rattle.paper.specs.Frame.{Pair, Frame, Shape, encode, shape}
-use Rattle.paper.specs.Frame.Frame.{message, tick, register, unregister}
+use Rattle.paper.specs.Frame.Frame.{message, tick, register, unregister, cancel}
 use Rattle.paper.specs.Frame.Shape.{refused, accepted}
 use Rattle.paper.specs.Impact.{impactIn}
 use Rattle.paper.specs.Rank.{Line}
@@ -92,6 +92,23 @@ c10 =
     ∷ message 119 9 (at 5 1 ∷ [])
     ∷ [])
 
+-- messages cancelled at 40 with their serials used again, pushed out for N and past
+abbrev pub cancelled : List (List ℕ)
+cancelled =
+    map encode
+    (registered
+    ∷ message 10 1 (at 5 3 ∷ at 9 4 ∷ [])
+    ∷ message 20 2 (at 5 1 ∷ [])
+    ∷ message 30 3 (at 9 1 ∷ at 40 1 ∷ [])
+    ∷ cancel 40 1
+    ∷ cancel 40 1
+    ∷ message 41 1 (at 5 1 ∷ [])
+    ∷ message 42 4 (at 9 1 ∷ [])
+    ∷ cancel 39 3
+    ∷ cancel 131 3
+    ∷ tick 142
+    ∷ [])
+
 unfoldable pub table : List Case
 table =
     -- C1
@@ -136,6 +153,23 @@ table =
     ∷ (0 ∷ 1 ∷ 3 ∷ 1414 ∷ 2 ∷ 1000 ∷ [])
     ∷ (0 ∷ 0 ∷ 3 ∷ 1414 ∷ 2 ∷ 1000 ∷ [])
     ∷ (7 ∷ 0 ∷ 3 ∷ 1414 ∷ 2 ∷ 1000 ∷ [])
+    ∷ [])
+    -- T-02
+    ∷ spelling (cancel 40 1) (0x50 ∷ 0x00 ∷ 0x00 ∷ 0x02 ∷ 0x80 ∷ 0x00 ∷ 0x01 ∷ [])
+    ∷ judging (0x50 ∷ 0x00 ∷ 0x00 ∷ 0x02 ∷ 0x80 ∷ 0x00 ∷ []) 3
+    ∷ judging (0x60 ∷ 0x00 ∷ 0x00 ∷ 0x02 ∷ 0x80 ∷ 0x00 ∷ 0x01 ∷ []) 2
+    ∷ passage 3 100 cancelled
+    ((0 ∷ 0 ∷ [])
+    ∷ (0 ∷ 0 ∷ 1 ∷ 2200 ∷ [])
+    ∷ (0 ∷ 0 ∷ 1 ∷ 2200 ∷ 2 ∷ 1000 ∷ [])
+    ∷ (0 ∷ 0 ∷ 1 ∷ 2200 ∷ 3 ∷ 1414 ∷ [])
+    ∷ (0 ∷ 1 ∷ 3 ∷ 1414 ∷ 2 ∷ 1000 ∷ [])
+    ∷ (13 ∷ 0 ∷ 3 ∷ 1414 ∷ 2 ∷ 1000 ∷ [])
+    ∷ (0 ∷ 0 ∷ 3 ∷ 1414 ∷ 1 ∷ 1000 ∷ [])
+    ∷ (0 ∷ 1 ∷ 4 ∷ 2000 ∷ 3 ∷ 1414 ∷ [])
+    ∷ (7 ∷ 0 ∷ 4 ∷ 2000 ∷ 3 ∷ 1414 ∷ [])
+    ∷ (13 ∷ 0 ∷ 4 ∷ 2000 ∷ 3 ∷ 1414 ∷ [])
+    ∷ (0 ∷ 2 ∷ 4 ∷ 2000 ∷ [])
     ∷ [])
     -- "Order for a frame": of all that is wrong the first is told. Each row mends one thing of the row above.
     ∷ judging (0x00 ∷ 0x00 ∷ 0x00 ∷ 0x00 ∷ []) 1

@@ -8,7 +8,7 @@ use mathlib.Core.Option.{Option, none, some}
 use lib.Dec.{eqb}
 use Rattle.wire.specs.Bits.{odd}
 use Rattle.paper.specs.Frame.{Frame, Shape, shape, numbers}
-use Rattle.paper.specs.Frame.Frame.{message, tick, register, unregister}
+use Rattle.paper.specs.Frame.Frame.{message, tick, register, unregister, cancel}
 use Rattle.paper.specs.Frame.Shape.{refused, accepted}
 use Rattle.paper.specs.Window.{Message}
 use Rattle.paper.specs.Rank.{Query}
@@ -40,6 +40,7 @@ names (message t s ps) n = false
 names (tick t) n = false
 names (register t m k ps) n = eqb m n
 names (unregister t m) n = eqb m n
+names (cancel t s) n = false
 
 -- "an arriving or departing message exceeds one of its thresholds as they stood before the frame"
 abbrev pub reachedBy : Option Query → Option Kept → (Query → List Message) → Bool

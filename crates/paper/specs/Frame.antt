@@ -14,12 +14,13 @@ pub record Pair : Type 0 where
   pub term : ℕ
   pub amount : ℕ
 
--- The four kinds with their fields, in the order of the table. `unregister` is document 01's drop.
+-- The kinds with their fields, in the order of the table: four of document 01, whose drop is `unregister`, and T-02's `cancel`.
 pub data Frame : Type 0 where
   message : (time serial : ℕ) → List Pair → Frame
   tick : (time : ℕ) → Frame
   register : (time number k : ℕ) → List Pair → Frame
   unregister : (time number : ℕ) → Frame
+  cancel : (time serial : ℕ) → Frame
 
 -- What a caller of the writer may hand over: any numbers; the first `pairs` places of both lists are the pairs.
 pub record Fields : Type 0 where
@@ -94,6 +95,10 @@ registerRow = record {
 abbrev pub unregisterRow : Row
 unregisterRow = record { head = time ∷ plain (λ f. f .number) numberWidth ∷ []; amount = 0 }
 
+-- "kind, time and a 20-bit serial"
+abbrev pub cancelRow : Row
+cancelRow = record { head = time ∷ plain (λ f. f .serial) serialWidth ∷ []; amount = 0 }
+
 abbrev pub noRow : Row
 noRow = record { head = []; amount = 0 }
 
@@ -104,7 +109,8 @@ rowOf kind =
     (cond (eqb kind 2) tickRow
     (cond (eqb kind 3) registerRow
     (cond (eqb kind 4) unregisterRow
-    noRow)))
+    (cond (eqb kind 5) cancelRow
+    noRow))))
 
 -- whether a kind has a row
 abbrev pub known : Row → Bool
@@ -139,7 +145,7 @@ unfoldable pub pairValues : List Pair → List ℕ
 pairValues [] = []
 pairValues (p ∷ ps) = p .term ∷ p .amount ∷ pairValues ps
 
--- "Bits: message 60 + 18m, tick 36, register 48 + 14n, drop 41": fields of these widths, and m pairs
+-- "Bits: message 60 + 18m, tick 36, register 48 + 14n, drop 41", cancel 56: fields of these widths, and m pairs
 abbrev pub bitsOf : List ℕ → ℕ → ℕ → ℕ
 bitsOf head w m = total head + m * (termWidth + w)
 
@@ -168,6 +174,7 @@ encode (message t s ps) = writtenBy messageRow (1 ∷ t ∷ s ∷ (length ps - 1
 encode (tick t) = writtenBy tickRow (2 ∷ t ∷ []) []
 encode (register t n k ps) = writtenBy registerRow (3 ∷ t ∷ n ∷ (k - 1) ∷ (length ps - 1) ∷ []) ps
 encode (unregister t n) = writtenBy unregisterRow (4 ∷ t ∷ n ∷ []) []
+encode (cancel t s) = writtenBy cancelRow (5 ∷ t ∷ s ∷ []) []
 
 -- ---- what a list of bytes is
 
@@ -184,7 +191,8 @@ frameOf kind values pairs =
     (cond (eqb kind 2) (accepted (tick (at 0)))
     (cond (eqb kind 3) (accepted (register (at 0) (at 1) (at 2 + 1) pairs))
     (cond (eqb kind 4) (accepted (unregister (at 0) (at 1)))
-    (refused 2))))
+    (cond (eqb kind 5) (accepted (cancel (at 0) (at 1)))
+    (refused 2)))))
 
 -- the values of the fields after the kind, one after the other
 abbrev pub valuesAt : List ℕ → Row → List ℕ
@@ -271,3 +279,4 @@ Valid (message t s ps) = ValidMessage t s ps
 Valid (tick t) = t < 2 ^ timeWidth
 Valid (register t n k ps) = ValidQuery t n k ps
 Valid (unregister t n) = (t < 2 ^ timeWidth) × (n < numbers)
+Valid (cancel t s) = (t < 2 ^ timeWidth) × (s < 2 ^ serialWidth)

@@ -1,5 +1,5 @@
 -- The paper log: what was accepted, the refusal table, and the replies.
--- Document 01, "Replies" and "The paper log". Assumes nothing.
+-- Document 01, "Replies" and "The paper log", and document 02, T-02. Assumes nothing.
 use Prim.Native.Nat.{ℕ, _*_, _^_}
 use mathlib.Core.Bool.{Bool, true, false, cond, _&&_, _||_}
 use mathlib.Core.List.{List, [], _∷_, _++_}
@@ -7,9 +7,9 @@ use mathlib.Core.Option.{Option, none, some}
 use lib.ListN.{length, getD, set, replicate}
 use lib.Dec.{eqb, leb, ltb}
 use Rattle.paper.specs.Frame.{Frame, Shape, shape, termWidth, numbers}
-use Rattle.paper.specs.Frame.Frame.{message, tick, register, unregister}
+use Rattle.paper.specs.Frame.Frame.{message, tick, register, unregister, cancel}
 use Rattle.paper.specs.Frame.Shape.{refused, accepted}
-use Rattle.paper.specs.Window.{Message, mostMessages, longestLife, inForce, departing, remaining}
+use Rattle.paper.specs.Window.{Message, arrival, mostMessages, longestLife, filled, standing, inForce, noting, departing, remaining}
 use Rattle.paper.specs.Rank.{Query, Line, ranking, postings, lines}
 use Rattle.paper.specs.Layout.{stateLength}
 
@@ -44,6 +44,13 @@ inForceAt log t = inForce (log .N) (log .T) t (log .messages)
 abbrev pub inForceNow : Log → List Message
 inForceNow log = inForceAt log (log .clock)
 
+-- and with them the cancelled ones that still fill a place
+abbrev pub filledAt : Log → ℕ → List Message
+filledAt log t = filled (log .N) (log .T) t (log .messages)
+
+abbrev pub filledNow : Log → List Message
+filledNow log = filledAt log (log .clock)
+
 -- the messages that a query ranks and takes its candidates from
 unfoldable pub seen : Log → Query → List Message
 seen log q = inForceNow log
@@ -59,13 +66,16 @@ timeOf (message t s ps) = t
 timeOf (tick t) = t
 timeOf (register t n k ps) = t
 timeOf (unregister t n) = t
+timeOf (cancel t s) = t
 
--- 8: "serial in force at the frame's time, before any message leaves for N"; 9: "registering a number in use"; 10: "dropping .. a number not in use"
+-- 8: "serial in force at the frame's time, before any message leaves for N"; 13: "serial not in force at the frame's time, checked where 8 stands";
+-- 9: "registering a number in use"; 10: "dropping .. a number not in use"
 abbrev pub judgeKind : Log → Frame → ℕ
 judgeKind log (message t s ps) = cond (hasSerial s (inForceAt log t)) 8 0
 judgeKind log (tick t) = 0
 judgeKind log (register t n k ps) = cond (inUse (queryAt log n)) 9 0
 judgeKind log (unregister t n) = cond (inUse (queryAt log n)) 0 10
+judgeKind log (cancel t s) = cond (hasSerial s (inForceAt log t)) 0 13
 
 -- 7: "time below the clock"
 abbrev pub judgeFrame : Log → Frame → ℕ
@@ -85,32 +95,43 @@ pub record Call : Type 0 where
 abbrev pub lent : ℕ → ℕ → ℕ → Bool
 lent state output needed = eqb state stateLength && leb needed output
 
--- "Order for a frame: state length (12), then 1 to 10." `needed` is how many bytes the answer takes where it is written into lent ones, else 0.
+-- "Order for a frame: state length (12), then 1 to 10", 13 in the place of 8. `needed` is how many bytes the answer takes where it is written into lent ones, else 0.
 unfoldable pub judge : ℕ → Log → Call → ℕ
 judge needed log c = cond (lent (c .state) (c .output) needed) (judgeShape log (shape (c .bytes))) 12
 
 -- ---- the log after a frame
 
 abbrev pub arrivals : Frame → List Message
-arrivals (message t s ps) = record { time = t; serial = s; pairs = ps } ∷ []
+arrivals (message t s ps) = arrival t s ps ∷ []
 arrivals (tick t) = []
 arrivals (register t n k ps) = []
 arrivals (unregister t n) = []
+arrivals (cancel t s) = []
+
+-- whether a frame cancels a message after which `later` more were accepted: the one in force at its time that has its serial
+abbrev pub cancels : Log → Frame → ℕ → Message → Bool
+cancels log (message t s ps) later m = false
+cancels log (tick t) later m = false
+cancels log (register t n k ps) later m = false
+cancels log (unregister t n) later m = false
+cancels log (cancel t s) later m = standing (log .N) (log .T) t later m && eqb (m .serial) s
 
 abbrev pub queriesAfter : Frame → List (Option Query) → List (Option Query)
 queriesAfter (message t s ps) qs = qs
 queriesAfter (tick t) qs = qs
 queriesAfter (register t n k ps) qs = set qs n (some (record { k = k; terms = ps }))
 queriesAfter (unregister t n) qs = set qs n none
+queriesAfter (cancel t s) qs = qs
 
--- "Accepted, its time becomes the clock; then a message is added at the end, a registration fills its number, a drop empties it, a tick does no more."
+-- "Accepted, its time becomes the clock; then a message is added at the end, a registration fills its number, a drop empties it, a tick does no more",
+-- and a cancelled message is noted as cancelled in its place.
 unfoldable pub accept : Log → Frame → Log
 accept log f =
     record {
       N = log .N;
       T = log .T;
       clock = timeOf f;
-      messages = log .messages ++ arrivals f;
+      messages = noting (cancels log f) (log .messages) ++ arrivals f;
       queries = queriesAfter f (log .queries);
     }
 
@@ -130,11 +151,11 @@ replay needed log (c ∷ cs) = replay needed (after needed log c) cs
 
 -- the messages that an accepted frame makes leave, in the order of acceptance
 unfoldable pub departs : Log → Frame → List Message
-departs log f = departing (log .N) (log .T) (log .clock) (timeOf f) (length (arrivals f)) (log .messages)
+departs log f = departing (log .N) (log .T) (log .clock) (timeOf f) (length (arrivals f)) (cancels log f) (log .messages)
 
 -- those that are in force before it and after it
 unfoldable pub stays : Log → Frame → List Message
-stays log f = remaining (log .N) (log .T) (log .clock) (timeOf f) (length (arrivals f)) (log .messages)
+stays log f = remaining (log .N) (log .T) (log .clock) (timeOf f) (length (arrivals f)) (cancels log f) (log .messages)
 
 -- what it moves for a query: the messages that the query sees before it and not after it, then those that it sees after it and not before it
 unfoldable pub movedFor : Log → Frame → Query → List Message

@@ -7,7 +7,7 @@ use mathlib.Core.List.{List, [], _∷_, map}
 use lib.ListN.{length}
 use lib.Dec.{eqb, leb, ltb}
 use Rattle.paper.specs.Frame.{Pair, Frame, Shape, encode, termWidth, Fields, Field, Row, rowOf, known, frameOf, judged}
-use Rattle.paper.specs.Frame.Frame.{message, tick, register, unregister}
+use Rattle.paper.specs.Frame.Frame.{message, tick, register, unregister, cancel}
 use Rattle.paper.specs.Frame.Field.{plain, lessOne}
 use Rattle.paper.specs.Frame.Shape.{refused, accepted}
 
@@ -86,6 +86,7 @@ fieldsWith (message t s ps) ts us = fieldsFor 1 t s 0 0 (length ps) ts us
 fieldsWith (tick t) ts us = fieldsFor 2 t 0 0 0 0 ts us
 fieldsWith (register t n k ps) ts us = fieldsFor 3 t 0 n k (length ps) ts us
 fieldsWith (unregister t n) ts us = fieldsFor 4 t 0 n 0 0 ts us
+fieldsWith (cancel t s) ts us = fieldsFor 5 t s 0 0 0 ts us
 
 -- a frame's pairs, none where its kind has no such field
 abbrev pub pairsIn : Frame → List Pair
@@ -93,6 +94,7 @@ pairsIn (message t s ps) = ps
 pairsIn (tick t) = []
 pairsIn (register t n k ps) = ps
 pairsIn (unregister t n) = []
+pairsIn (cancel t s) = []
 
 abbrev pub fieldsOf : Frame → Fields
 fieldsOf f = fieldsWith f (map (λ p. p .term) (pairsIn f)) (map (λ p. p .amount) (pairsIn f))

@@ -8,8 +8,10 @@ pub const MOST_TERMS: usize = 8;
 
 pub const MOST_LISTED: usize = 16;
 
-// How many terms and how many query numbers there are.
+// How many terms, serials and query numbers there are.
 pub const TERMS: usize = 1024;
+
+pub const SERIALS: u32 = 1048576;
 
 pub const NUMBERS: usize = 32;
 

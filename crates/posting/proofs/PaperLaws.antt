@@ -1,4 +1,4 @@
--- The postings of a window that holds messages are paper's. Assumes nothing.
+-- The postings of a window that holds messages, cancelled or not, are paper's of those in force. Assumes nothing.
 use Prim.Native.Nat.{ℕ, _*_, _≤_}
 use mathlib.Core.Path.{_≡_, refl, sym, ap, _∙_}
 use mathlib.Core.Bool.{Bool, true, false, cond}
@@ -12,10 +12,13 @@ use Rattle.paper.specs.Rank.{Line, entry, entries, line, lines, postings}
 use Rattle.paper.specs.Sort.{select}
 use Rattle.paper.specs.Log.{postingLength}
 use Rattle.paper.specs.Sound.{Messages}
+use Rattle.paper.proofs.Tests.{by-bool}
 use Rattle.paper.proofs.SortLaws.{inserts-map, length-sort}
+use Rattle.paper.proofs.WindowLaws.{active}
+use Rattle.impact.specs.Cell.{lookup}
 use Rattle.impact.proofs.CellLaws.{lookup-cells}
 use Rattle.rank.specs.Listing.{aheadLine}
-use Rattle.window.specs.Slot.{Slot, stored}
+use Rattle.window.specs.Slot.{Slot, stored, silenced, held}
 use Rattle.posting.specs.Lines.{lineBytes}
 use Rattle.posting.specs.Posting.{having, posting, Counted, Filled}
 
@@ -37,10 +40,22 @@ module _ (t : ℕ) where
   unfolding postings
   posting-stored ms v = rw (having-stored ms v) (inserts-map line aheadLine [] (entries (λ ps. impactIn ps t) ms))
 
+  -- one that is cancelled has no impact
+  having-held : (ms : List Message) → having t (map held ms) ≡ having t (map stored (select active ms))
+  unfolding select silenced lookup
+  having-held [] = refl
+  having-held (m ∷ ms) =
+      by-bool (m .cancelled)
+      (λ c. rw (c, having-held ms))
+      (λ c. rw (c, having-held ms))
+
   -- what each reader says of a window that holds messages
-  module _ {xs : List Slot} (ms : List Message) (v : Messages ms) (e : xs ≡ map stored ms) where
+  module _ {xs : List Slot} (all : List Message) (v : Messages (select active all)) (e : xs ≡ map held all) where
+    abbrev ms : List Message
+    ms = select active all
+
     sorted : posting t xs ≡ lines (postings t ms)
-    sorted = rw e (posting-stored ms v)
+    sorted = rw (e, having-held all) (posting-stored ms v)
 
     number : length (having t xs) ≡ length (lines (postings t ms))
     number = sym (length-sort aheadLine (having t xs)) ∙ ap length sorted

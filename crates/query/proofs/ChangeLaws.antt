@@ -3,9 +3,9 @@ use Prim.Native.Nat.{ℕ, zero, suc, _+_, _≤_, _<_}
 use native.Mathlib.Nat.{eq-or-lt-of-le}
 use native.Mathlib.Omega.{arith}
 use mathlib.Core.Path.{_≡_, refl, sym, ap, ap₂, _∙_, subst}
-use mathlib.Core.Bool.{Bool, true, false, cond, _&&_}
+use mathlib.Core.Bool.{Bool, true, false, cond, not, _&&_}
 use mathlib.Core.Logic.{_⊎_, inl, inr, ⊎-elim}
-use mathlib.Core.List.{List, [], _∷_, _++_, map, map-map, append-nil}
+use mathlib.Core.List.{List, [], _∷_, _++_, map, append-nil}
 use lib.ListN.{length, getD, take, length-map, length-take}
 use lib.Seq.{getD-take, take-all}
 use lib.Dec.{leb, ltb}
@@ -23,32 +23,32 @@ use Rattle.paper.specs.Window.{Message}
 use Rattle.paper.specs.Layout.{slots, listedIn, thresholdsIn, serialsIn, scoresIn}
 use Rattle.paper.proofs.Tests.{by-bool}
 use Rattle.paper.proofs.RankLaws.{ranking-length}
-use Rattle.paper.proofs.SortLaws.{select-length}
-use Rattle.paper.proofs.LeadLaws.{AtLeast, entryStays}
+use Rattle.paper.proofs.SortLaws.{in-left, select-length}
+use Rattle.paper.proofs.LeadLaws.{AtLeast, entryStays, leads-entry}
 use Rattle.paper.proofs.PlaceLaws.{Placed, placed-full, placed-short, placed-gone, placed-left, placed-come, placed-low, placed-ranking}
 use Rattle.paper.proofs.ThresholdLaws.{sum-zero, settled-again}
 use Rattle.memory.proofs.KeepsLaws.{keeps-at, keeps-part}
 use Rattle.rank.specs.declared.Ranked.{Ranked}
-use Rattle.rank.specs.Listing.{linesOf, lastOf, leastOf, Tidy, grown, withouts}
+use Rattle.rank.specs.Listing.{linesOf, lastOf, leastOf, Tidy, grown, withouts, hasNumber}
 use Rattle.rank.proofs.LineLaws.{length-listed}
 use Rattle.rank.proofs.PaperLaws.{lines-last, lines-grown}
 use Rattle.rank.proofs.RemovedLaws.{without-lines}
-use Rattle.window.specs.Slot.{Slot, slot, stored, ring, window}
+use Rattle.window.specs.Slot.{Slot, slot, stored}
 use Rattle.window.proofs.SlotLaws.{slot-kept}
 use Rattle.candidates.specs.declared.Query.{Query}
 use Rattle.candidates.specs.Flags.{flagOf, inRing}
 use Rattle.candidates.specs.Match.{exceedsCells}
-use Rattle.candidates.proofs.MatchLaws.{in-ring, slot-in}
+use Rattle.candidates.proofs.MatchLaws.{slot-in, select-agree}
 use Rattle.query.specs.declared.Move.{Move}
 use Rattle.query.specs.declared.Touch.{Touch}
-use Rattle.query.specs.Record.{thresholds, flags, list, candidates, keptOf, Holds}
-use Rattle.query.specs.Post.{Is, LoadedQuery, LoadedThresholds, LoadedList, Over, Ready, Exact, arriving}
+use Rattle.query.specs.Record.{thresholds, flags, list, candidates, heldOf, Held, Holds}
+use Rattle.query.specs.Post.{Is, LoadedQuery, LoadedThresholds, LoadedList, Ready, Exact, arriving, leavingSerials}
 use Rattle.query.specs.Post.{KeptList, WithoutGone, WithNewest, Change, Told, SettledFrom, Retuned, Changed}
-use Rattle.query.proofs.ChosenLaws.{chosen, serials-of}
+use Rattle.query.proofs.ChosenLaws.{messages-in, candidates-are}
 use Rattle.query.proofs.KeptLaws.{over-kept}
 use Rattle.query.proofs.RecordLaws.{cells-same, says-same}
 use Rattle.query.proofs.SettleLaws.{Sixteen, last-positive, lt-or-ge}
-use Rattle.query.proofs.MoveLaws.{first-ones, no-others, over-after}
+use Rattle.query.proofs.MoveLaws.{first-ones, no-others, come-after, over-after}
 
 -- where every entry scores at least a bound the last does
 last-high : (b : ℕ) (es : List Entry) → AtLeast b es → 1 ≤ length es → b ≤ lastScore es
@@ -85,8 +85,8 @@ module _ (w : List ℕ) (newest : ℕ) {ca : List Message} (come : map (slot w) 
 
 -- ---- the list
 
-module _ {w : List ℕ} {q o d o′ s newest : ℕ} {aa ga sa ca : List Message} {query : Rank.Query} (change : Change w o d o′ s newest aa ga sa ca)
-    (terms : Terms query) (holds : Holds w q o (d + s) aa query) {least : ℕ} (least-is : least ≡ leastOf (query .k) (list w q)) where
+module _ {w₀ w : List ℕ} {q o n : ℕ} {m : Move} {aa ga sa ca : List Message} {query : Rank.Query} (change : Change w₀ w o n m aa ga sa ca)
+    (terms : Terms query) (held : Held w₀ w q o n aa query) {least : ℕ} (least-is : least ≡ leastOf (query .k) (list w q)) where
   abbrev es : List Entry
   es = ranking query aa
 
@@ -94,7 +94,7 @@ module _ {w : List ℕ} {q o d o′ s newest : ℕ} {aa ga sa ca : List Message}
   k = query .k
 
   lines-are : list w q ≡ lines es
-  lines-are = holds .settled .ranked
+  lines-are = held .settled .ranked
 
   length-is : length (list w q) ≡ length es
   length-is = ap length lines-are ∙ length-map es line
@@ -120,7 +120,7 @@ module _ {w : List ℕ} {q o d o′ s newest : ℕ} {aa ga sa ca : List Message}
           least-is ∙ ap (λ (b : Bool). cond b (lastOf (list w q)) 1) (ne-eqb (length (list w q)) k (λ e. omega (arith, length-is))) in
           (0, record { placed = subst (λ (n : ℕ). Placed query 0 n aa es) (sym l) (placed-short query aa h); how = inr (h, refl) })
 
-  module _ {touch : Touch} {n : ℕ} {fs : List ℕ} (told : Told w q o′ n ga ca query touch fs) {bound : ℕ} (from : Start bound) where
+  module _ {touch : Touch} {fs : List ℕ} (told : Told w q (m .first) (m .count) ga ca query touch fs) {bound : ℕ} (from : Start bound) where
     -- what left goes out
     record Gone (rest : Ranked) : Type 0 where
       stay : List Entry
@@ -128,20 +128,24 @@ module _ {w : List ℕ} {q o d o′ s newest : ℕ} {aa ga sa ca : List Message}
       placed : Placed query bound least sa stay
       few : length stay ≤ k
 
-    gone : {l rest : Ranked} → linesOf l ≡ list w q → WithoutGone w o d (touch .went) least l rest → Gone rest
+    gone : {l rest : Ranked} → linesOf l ≡ list w q → WithoutGone w m (touch .went) least l rest → Gone rest
     gone {l} {rest} loaded out = by-bool (leb least (touch .went)) some none
       where
-        serials-are : map (λ x. x .serial) (window w o d) ≡ serials ga
-        serials-are = map-map (λ (x : Slot). x .serial) (slot w) (ring o d) ∙ serials-of w (ring o d) ga (change .gone)
+        made : (b : Bool) → leb least (touch .went) ≡ b → linesOf rest ≡ cond b (withouts (leavingSerials w m) (lines es)) (lines es)
+        made b e =
+            out .list-is
+            ∙ ap₂ (λ (t : Bool) (x : List Line). cond t (withouts (leavingSerials w m) x) x) e (loaded ∙ lines-are)
+
+        -- of a message that was in force, its serial says whether it leaves
+        named : (x : Entry) → In x es → not (hasNumber (x .of .serial) (leavingSerials w m)) ≡ entryStays ga x
+        named x i =
+            let l = from .placed .leads in
+            ap not (change .serials (x .of .serial) (messages-in (x .of) aa (change .valid) (leads-entry query l x (in-left x es (l .rest) i) .0) .0))
 
         some : leb least (touch .went) ≡ true → Gone rest
         some e = record {
           stay = select (entryStays ga) es;
-          shows =
-              out .list-is
-              ∙ ap (λ (b : Bool). cond b (withouts (map (λ x. x .serial) (window w o d)) (linesOf l)) (linesOf l)) e
-              ∙ ap₂ withouts serials-are (loaded ∙ lines-are)
-              ∙ without-lines ga es;
+          shows = made true e ∙ without-lines (leavingSerials w m) es ∙ ap lines (select-agree _ (entryStays ga) es named);
           placed = placed-gone query (change .split) (change .distinct) (from .placed);
           few = let a = select-length (entryStays ga) es in let b = ranking-length query aa in omega arith;
         }
@@ -149,7 +153,7 @@ module _ {w : List ℕ} {q o d o′ s newest : ℕ} {aa ga sa ca : List Message}
         none : leb least (touch .went) ≡ false → Gone rest
         none e = record {
           stay = es;
-          shows = out .list-is ∙ ap (λ (b : Bool). cond b (withouts (map (λ x. x .serial) (window w o d)) (linesOf l)) (linesOf l)) e ∙ loaded ∙ lines-are;
+          shows = made false e;
           placed =
               placed-left query (change .split) (change .distinct) (from .placed)
               (λ x i. let a = told .went x i in let b = leb-false least (touch .went) e in omega arith);
@@ -162,29 +166,29 @@ module _ {w : List ℕ} {q o d o′ s newest : ℕ} {aa ga sa ca : List Message}
       shows : linesOf next ≡ lines (take k all)
       placed : Placed query bound least (sa ++ ca) all
 
-    module _ {rest next : Ranked} (g : Gone rest) (few : rest .count ≤ k) (new : WithNewest w newest (touch .came) k least rest next) where
+    module _ {rest next : Ranked} (g : Gone rest) (few : rest .count ≤ k) (new : WithNewest w (m .newest) (touch .came) k least rest next) where
       abbrev stay : List Entry
       stay = g .stay
 
       -- the line of its slot
       abbrev given : Line
-      given = record { serial = slot w newest .serial; score = touch .came }
+      given = record { serial = slot w (m .newest) .serial; score = touch .came }
 
       cut : lines stay ≡ lines (take k stay)
       cut = ap lines (sym (take-all k stay (g .few)))
 
       -- what the code makes of it, once its tests are known
-      made : (a b : Bool) → ltb newest slots ≡ a → leb least (touch .came) ≡ b → linesOf next ≡ cond (a && b) (grown k given (linesOf rest)) (linesOf rest)
+      made : (a b : Bool) → ltb (m .newest) slots ≡ a → leb least (touch .came) ≡ b → linesOf next ≡ cond (a && b) (grown k given (linesOf rest)) (linesOf rest)
       made a b t c = new .list-is few ∙ ap₂ (λ (x y : Bool). cond (x && y) (grown k given (linesOf rest)) (linesOf rest)) t c
 
-      none-comes : ltb newest slots ≡ false → ca ≡ [] → Come next
+      none-comes : ltb (m .newest) slots ≡ false → ca ≡ [] → Come next
       none-comes t e = record {
         all = stay;
         shows = made false (leb least (touch .came)) t refl ∙ g .shows ∙ cut;
         placed = subst (λ (ms : List Message). Placed query bound least ms stay) (sym (append-nil sa) ∙ ap (λ (c : List Message). sa ++ c) (sym e)) (g .placed);
       }
 
-      module _ (x : Message) (t : ltb newest slots ≡ true) (e : ca ≡ x ∷ []) (serial : slot w newest .serial ≡ x .serial) where
+      module _ (x : Message) (t : ltb (m .newest) slots ≡ true) (e : ca ≡ x ∷ []) (serial : slot w (m .newest) .serial ≡ x .serial) where
         abbrev its : Entry
         its = entry (score (query .terms)) x
 
@@ -219,7 +223,7 @@ module _ {w : List ℕ} {q o d o′ s newest : ℕ} {aa ga sa ca : List Message}
         one-comes = by-bool (leb least (touch .came)) enters stays
 
       come : Come next
-      come = ⊎-elim (λ p. none-comes (p .0) (p .1)) (λ p. one-comes (p .0) (p .1) (p .2) (p .3)) (arrived w newest (change .come))
+      come = ⊎-elim (λ p. none-comes (p .0) (p .1)) (λ p. one-comes (p .0) (p .1) (p .2) (p .3)) (arrived w (m .newest) (come-after change))
 
     -- THE LAW: it is the ranking, where it is full or was all that scores
     module _ {next : Ranked} (c : Come next) (enough : length es ≡ k → k ≤ length (linesOf next)) where
@@ -244,10 +248,10 @@ module _ {w : List ℕ} {q o d o′ s newest : ℕ} {aa ga sa ca : List Message}
           → thresholdSum (query .terms) (thresholds w q (length (query .terms))) < lastScore (ranking query (sa ++ ca))
       safe-next full =
           ⊎-elim
-          (λ f. omega (arith, holds .settled .full (f .0) .safe, f .1, last-high least (ranking query (sa ++ ca)) high-next (omega (arith, terms .k-least))))
+          (λ f. omega (arith, held .settled .full (f .0) .safe, f .1, last-high least (ranking query (sa ++ ca)) high-next (omega (arith, terms .k-least))))
           (λ f. omega (
             arith,
-            sum-zero (query .terms) (thresholds w q (length (query .terms))) (holds .settled .short (f .0)),
+            sum-zero (query .terms) (thresholds w q (length (query .terms))) (held .settled .short (f .0)),
             last-positive query (sa ++ ca) (omega (arith, terms .k-least)),
           ))
           (from .how)
@@ -256,7 +260,7 @@ module _ {w : List ℕ} {q o d o′ s newest : ℕ} {aa ga sa ca : List Message}
       short-next h =
           ⊎-elim
           (λ f. absurd (omega (arith, enough (f .0), ap length ranked-next, length-map (ranking query (sa ++ ca)) line)))
-          (λ f. holds .settled .short (f .0))
+          (λ f. held .settled .short (f .0))
           (from .how)
 
 -- ---- what the code does
@@ -264,20 +268,16 @@ module _ {w : List ℕ} {q o d o′ s newest : ℕ} {aa ga sa ca : List Message}
 module _ {w : List ℕ} {q : ℕ} {m : Move} {r : Query} {hs : List ℕ} {touch : Touch} {fs : List ℕ} (query-is : LoadedQuery w q r)
     (thresholds-are : LoadedThresholds w q hs) where
   -- a query that was right before
-  module _ {s : ℕ} {aa ga sa ca : List Message} {query : Rank.Query} (change : Change w (m .gone) (m .departed) (m .first) s (m .newest) aa ga sa ca)
-      (counted : m .count ≡ s + length ca) (terms : Terms query) (holds : Holds w q (m .gone) (m .departed + s) aa query)
-      (told : Told w q (m .first) (m .count) ga ca query touch fs) where
+  module _ {w₀ : List ℕ} {o n : ℕ} {aa ga sa ca : List Message} {query : Rank.Query} (change : Change w₀ w o n m aa ga sa ca) (terms : Terms query)
+      (held : Held w₀ w q o n aa query) (told : Told w q (m .first) (m .count) ga ca query touch fs) where
     loaded : Is r query
-    loaded = query-is .is query terms (holds .says)
+    loaded = query-is .is query terms (held .says)
 
     the-thresholds : take (r .n) hs ≡ thresholds w q (length (query .terms))
-    the-thresholds = ap (λ (n : ℕ). take n hs) (loaded .n) ∙ first-ones holds terms thresholds-are
+    the-thresholds = ap (λ (n : ℕ). take n hs) (loaded .n) ∙ first-ones held terms thresholds-are
 
     unused : (i : ℕ) → r .n ≤ i → getD hs i 0 ≡ 0
-    unused i h = no-others holds terms thresholds-are i (omega (arith, loaded .n))
-
-    over-next : Over w (m .first) (m .count) (sa ++ ca)
-    over-next = subst (λ (n : ℕ). Over w (m .first) n (sa ++ ca)) (sym counted) (over-after change)
+    unused i h = no-others held terms thresholds-are i (omega (arith, loaded .n))
 
     exact : Exact w (m .first) (m .count) fs (query .terms) (take (r .n) hs)
     exact = subst (Exact w (m .first) (m .count) fs (query .terms)) (sym the-thresholds) (told .exact)
@@ -288,51 +288,51 @@ module _ {w : List ℕ} {q : ℕ} {m : Move} {r : Query} {hs : List ℕ} {touch 
     exact-inside j h i = exact j ∙ ap (λ (b : Bool). b && exceedsCells (query .terms) (take (r .n) hs) (slot w j .cells)) i
 
     module _ {least : ℕ} {l rest next : Ranked} (list-is : LoadedList w q l) (long : Sixteen l) (long-next : Sixteen next)
-        (out : WithoutGone w (m .gone) (m .departed) (touch .went) least l rest) (new : WithNewest w (m .newest) (touch .came) (r .k) least rest next)
+        (out : WithoutGone w m (touch .went) least l rest) (new : WithNewest w (m .newest) (touch .came) (r .k) least rest next)
         (least-is : least ≡ leastOf (query .k) (list w q)) where
       lines-loaded : linesOf l ≡ list w q
       unfolding list
-      lines-loaded = rw (list-is .count-is (holds .listed-most), list-is .serials, list-is .scores)
+      lines-loaded = rw (list-is .count-is (held .listed-most), list-is .serials, list-is .scores)
 
       count-loaded : l .count ≡ length (ranking query aa)
       count-loaded =
           sym (length-listed (l .count) (l .serials) (l .scores) (omega (arith, long .most, long .serials)) (omega (arith, long .most, long .scores)))
-          ∙ ap length (lines-loaded ∙ holds .settled .ranked)
+          ∙ ap length (lines-loaded ∙ held .settled .ranked)
           ∙ length-map (ranking query aa) line
 
       tidy-loaded : Tidy l
       tidy-loaded =
-          let c = list-is .count-is (holds .listed-most) in
-          record { serials = rw (c, list-is .serials) (holds .no-serial); scores = rw (c, list-is .scores) (holds .no-score) }
+          let c = list-is .count-is (held .listed-most) in
+          record { serials = rw (c, list-is .serials) (held .no-serial); scores = rw (c, list-is .scores) (held .no-score) }
 
       -- the list in place, but for a full one that lost its last place
       ready : (l .count ≡ r .k → next .count ≡ r .k) → Ready w q (m .first) (m .count) (sa ++ ca) query fs r hs next
       ready enough = record {
-        over = over-next;
+        over = over-after change;
         terms = terms;
-        says = holds .says;
+        says = held .says;
         is = loaded;
-        ranked = ranked-next change terms holds least-is told from end full;
+        ranked = ranked-next change terms held least-is told from end full;
         tidy = new .tidy (out .tidy tidy-loaded);
         unused = unused;
-        safe = λ e. rw the-thresholds (safe-next change terms holds least-is told from end full e);
+        safe = λ e. rw the-thresholds (safe-next change terms held least-is told from end full e);
         short = λ h i.
             ⊎-elim
-            (λ b. sym (getD-take (r .n) hs i 0 b) ∙ rw the-thresholds (short-next change terms holds least-is told from end full h i))
+            (λ b. sym (getD-take (r .n) hs i 0 b) ∙ rw the-thresholds (short-next change terms held least-is told from end full h i))
             (λ b. unused i b)
             (lt-or-ge i (r .n));
         taken = λ j h i e. exact-inside j h i ∙ e;
       }
         where
-          from : Start change terms holds least-is (start change terms holds least-is .0)
-          from = start change terms holds least-is .1
+          from : Start change terms held least-is (start change terms held least-is .0)
+          from = start change terms held least-is .1
 
           few : rest .count ≤ query .k
           few = let a = out .within in let b = ranking-length query aa in omega (arith, count-loaded)
 
-          end : Come change terms holds least-is told from next
+          end : Come change terms held least-is told from next
           end =
-              come change terms holds least-is told from (gone change terms holds least-is told from lines-loaded out) few
+              come change terms held least-is told from (gone change terms held least-is told from lines-loaded out) few
               (subst (λ (k : ℕ). WithNewest w (m .newest) (touch .came) k least rest next) (loaded .k) new)
 
           full : length (ranking query aa) ≡ query .k → query .k ≤ length (linesOf next)
@@ -346,27 +346,27 @@ module _ {w : List ℕ} {q : ℕ} {m : Move} {r : Query} {hs : List ℕ} {touch 
   pub changed-settled : {least : ℕ} {w′ : List ℕ} → SettledFrom w q (m .first) (m .count) fs r hs w′ → Changed w q m touch least fs w′
   changed-settled settled = record {
     keeps = settled .keeps;
-    right = λ s aa ga sa ca query change counted terms holds least-is told.
-        settled .right (sa ++ ca) query (over-next change counted terms holds told) terms (holds .says) (loaded change counted terms holds told)
-        (unused change counted terms holds told) (exact-inside change counted terms holds told);
+    right = λ w₀ o n aa ga sa ca query change terms held least-is told.
+        settled .right (sa ++ ca) query (over-after change) terms (held .says) (loaded change terms held told)
+        (unused change terms held told) (exact-inside change terms held told);
   }
 
   pub changed-in-place : {least : ℕ} {l rest next : Ranked} {w′ : List ℕ} → LoadedList w q l → Sixteen l → Sixteen next
-      → WithoutGone w (m .gone) (m .departed) (touch .went) least l rest → WithNewest w (m .newest) (touch .came) (r .k) least rest next
+      → WithoutGone w m (touch .went) least l rest → WithNewest w (m .newest) (touch .came) (r .k) least rest next
       → (l .count ≡ r .k → next .count ≡ r .k) → Retuned w q (m .first) (m .count) fs r hs next w′ → Changed w q m touch least fs w′
   changed-in-place list-is long long-next out new enough retuned = record {
     keeps = retuned .keeps;
-    right = λ s aa ga sa ca query change counted terms holds least-is told.
-        retuned .right (sa ++ ca) query (ready change counted terms holds told list-is long long-next out new least-is enough)
-        (exact change counted terms holds told);
+    right = λ w₀ o n aa ga sa ca query change terms held least-is told.
+        retuned .right (sa ++ ca) query (ready change terms held told list-is long long-next out new least-is enough)
+        (exact change terms held told);
   }
 
 -- ---- a list that nothing changes
 
-module _ {w : List ℕ} {q o d o′ s newest n : ℕ} {aa ga sa ca : List Message} {query : Rank.Query} (change : Change w o d o′ s newest aa ga sa ca)
-    (counted : n ≡ s + length ca) (terms : Terms query) (holds : Holds w q o (d + s) aa query) {least : ℕ} (least-is : least ≡ leastOf (query .k) (list w q))
-    {touch : Touch} {fs : List ℕ} (told : Told w q o′ n ga ca query touch fs) (no-more : touch .came < least) (no-less : touch .went < least)
-    {w′ : List ℕ} (kept : KeptList w q fs w′) where
+module _ {w₀ w : List ℕ} {q o n : ℕ} {m : Move} {aa ga sa ca : List Message} {query : Rank.Query} (change : Change w₀ w o n m aa ga sa ca)
+    (terms : Terms query) (held : Held w₀ w q o n aa query) {least : ℕ} (least-is : least ≡ leastOf (query .k) (list w q)) {touch : Touch} {fs : List ℕ}
+    (told : Told w q (m .first) (m .count) ga ca query touch fs) (no-more : touch .came < least) (no-less : touch .went < least) {w′ : List ℕ}
+    (kept : KeptList w q fs w′) where
   abbrev size : ℕ
   size = length (query .terms)
 
@@ -374,20 +374,20 @@ module _ {w : List ℕ} {q o d o′ s newest n : ℕ} {aa ga sa ca : List Messag
   same-ranking : ranking query aa ≡ ranking query (sa ++ ca)
   same-ranking =
       sym (take-all (query .k) (ranking query aa) (ranking-length query aa))
-      ∙ placed-ranking query (after (arrived w newest (change .come))) (⊎-elim (λ f. inl (omega (arith, f .0))) (λ f. inr (f .1)) (from .how))
+      ∙ placed-ranking query (after (arrived w (m .newest) (come-after change))) (⊎-elim (λ f. inl (omega (arith, f .0))) (λ f. inr (f .1)) (from .how))
     where
-      from : Start change terms holds least-is (start change terms holds least-is .0)
-      from = start change terms holds least-is .1
+      from : Start change terms held least-is (start change terms held least-is .0)
+      from = start change terms held least-is .1
 
-      stay : Placed query (start change terms holds least-is .0) least sa (ranking query aa)
+      stay : Placed query (start change terms held least-is .0) least sa (ranking query aa)
       stay = placed-left query (change .split) (change .distinct) (from .placed) (λ x i. let a = told .went x i in omega arith)
 
-      beside : {ms ms′ : List Message} → ms ≡ ms′ → Placed query (start change terms holds least-is .0) least ms (ranking query aa)
-          → Placed query (start change terms holds least-is .0) least ms′ (ranking query aa)
-      beside e p = subst (λ (l : List Message). Placed query (start change terms holds least-is .0) least l (ranking query aa)) e p
+      beside : {ms ms′ : List Message} → ms ≡ ms′ → Placed query (start change terms held least-is .0) least ms (ranking query aa)
+          → Placed query (start change terms held least-is .0) least ms′ (ranking query aa)
+      beside e p = subst (λ (l : List Message). Placed query (start change terms held least-is .0) least l (ranking query aa)) e p
 
-      after : ((ltb newest slots ≡ false) × (ca ≡ [])) ⊎ ((x : Message) × (ltb newest slots ≡ true) × (ca ≡ x ∷ []) × (slot w newest .serial ≡ x .serial))
-          → Placed query (start change terms holds least-is .0) least (sa ++ ca) (ranking query aa)
+      after : ((ltb (m .newest) slots ≡ false) × (ca ≡ [])) ⊎ ((x : Message) × (ltb (m .newest) slots ≡ true) × (ca ≡ x ∷ []) × (slot w (m .newest) .serial ≡ x .serial))
+          → Placed query (start change terms held least-is .0) least (sa ++ ca) (ranking query aa)
       after (inl p) = beside (sym (append-nil sa) ∙ ap (λ (c : List Message). sa ++ c) (sym (p .1))) stay
       after (inr p) =
           let e = told .came (p .0) (subst (In (p .0)) (sym (p .2)) (inl refl)) in
@@ -406,33 +406,30 @@ module _ {w : List ℕ} {q o d o′ s newest n : ℕ} {aa ga sa ca : List Messag
         keeps-part (kept .keeps) (scoresIn q) mostListed (inl (omega arith)),
       )
 
-  flagged : (j : ℕ) → flagOf (flags w′ q) j ≡ (inRing o′ n j && exceedsCells (query .terms) (thresholds w′ q size) (slot w′ j .cells))
+  flagged : Exact w′ (m .first) (m .count) (flags w′ q) (query .terms) (thresholds w′ q size)
   flagged j =
       ap (λ (xs : List ℕ). flagOf xs j) (kept .flags-are)
       ∙ told .exact j
-      ∙ rw same-thresholds (cells-same w w′ (query .terms) (thresholds w q size) o′ n j (λ i. let h = slot-in o′ n j i in slot-kept (kept .keeps) j (inl (omega arith))))
+      ∙ rw same-thresholds
+      (cells-same w w′ (query .terms) (thresholds w q size) (m .first) (m .count) j
+      (λ i. let h = slot-in (m .first) (m .count) j i in slot-kept (kept .keeps) j (inl (omega arith))))
 
-  above : candidates w′ q o′ n ≡ serials (Threshold.candidates (query .terms) (thresholds w q size) (sa ++ ca))
-  unfolding candidates
+  above : candidates w′ w′ q (m .first) (m .count) ≡ serials (Threshold.candidates (query .terms) (thresholds w′ q size) (sa ++ ca))
   above =
-      serials-of w′ (select (flagOf (flags w′ q)) (ring o′ n)) (Threshold.candidates (query .terms) (thresholds w q size) (sa ++ ca))
-      (chosen w′ o′ n (sa ++ ca)
-      (over-kept (kept .keeps) (omega arith) o′ n (change .then-below) (subst (λ (i : ℕ). Over w o′ i (sa ++ ca)) (sym counted) (over-after change)))
-      (query .terms) (thresholds w q size) (flagOf (flags w′ q))
-      (λ j k. let i = in-ring o′ n j (change .then-below) k in
-      flagged j ∙ ap₂ (λ (b : Bool) (xs : List ℕ). b && exceedsCells (query .terms) xs (slot w′ j .cells)) (i .1) same-thresholds))
+      candidates-are q (query .terms) (thresholds w′ q size) (change .then-below)
+      (over-kept (kept .keeps) (omega arith) (m .first) (m .count) (change .then-below) (over-after change)) flagged
 
-  pub still-holds : Holds w′ q o′ n (sa ++ ca) query
+  pub still-holds : Holds w′ q (m .first) (m .count) (sa ++ ca) query
   still-holds = record {
-    says = says-same (kept .keeps) (inl (omega arith)) (holds .says);
+    says = says-same (kept .keeps) (inl (omega arith)) (held .says);
     settled =
         rw (same-thresholds, same-list)
-        (settled-again query aa (sa ++ ca) (keptOf w q o (d + s) size) (candidates w′ q o′ n) (holds .settled) same-ranking above);
+        (settled-again query aa (sa ++ ca) (heldOf w₀ w q o n size) (candidates w′ w′ q (m .first) (m .count)) (held .settled) same-ranking (rw same-thresholds at above));
     flagged = flagged;
-    no-threshold = λ i a z. keeps-at (kept .keeps) (thresholdsIn q + i) (inl (omega arith)) ∙ holds .no-threshold i a z;
-    listed-most = rw (keeps-at (kept .keeps) (listedIn q) (inl (omega arith))) (holds .listed-most);
+    no-threshold = λ i a z. keeps-at (kept .keeps) (thresholdsIn q + i) (inl (omega arith)) ∙ held .no-threshold i a z;
+    listed-most = rw (keeps-at (kept .keeps) (listedIn q) (inl (omega arith))) (held .listed-most);
     no-serial =
-        rw (keeps-at (kept .keeps) (listedIn q) (inl (omega arith)), keeps-part (kept .keeps) (serialsIn q) mostListed (inl (omega arith))) (holds .no-serial);
+        rw (keeps-at (kept .keeps) (listedIn q) (inl (omega arith)), keeps-part (kept .keeps) (serialsIn q) mostListed (inl (omega arith))) (held .no-serial);
     no-score =
-        rw (keeps-at (kept .keeps) (listedIn q) (inl (omega arith)), keeps-part (kept .keeps) (scoresIn q) mostListed (inl (omega arith))) (holds .no-score);
+        rw (keeps-at (kept .keeps) (listedIn q) (inl (omega arith)), keeps-part (kept .keeps) (scoresIn q) mostListed (inl (omega arith))) (held .no-score);
   }

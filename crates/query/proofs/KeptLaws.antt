@@ -5,18 +5,28 @@ use mathlib.Core.Logic.{inl}
 use mathlib.Core.List.{List}
 use lib.ListN.{getD, take, drop}
 use lib.Seq.{take-take, getD-take, getD-drop}
+use lib.Dec.{ltb}
+use Rattle.paper.specs.Sort.{select}
 use Rattle.paper.specs.Window.{Message}
 use Rattle.paper.specs.Layout.{slots, recordAt, thresholdsIn}
 use Rattle.memory.specs.Keeps.{Keeps}
 use Rattle.rank.specs.declared.Ranked.{Ranked}
 use Rattle.rank.specs.Listing.{linesOf}
-use Rattle.window.proofs.SlotLaws.{window-kept}
+use Rattle.window.specs.Slot.{Slot, ring}
+use Rattle.window.proofs.SlotLaws.{live-slots, window-kept}
 use Rattle.query.specs.Record.{thresholds, flags, list}
 use Rattle.query.specs.Post.{StoredKept, Over}
 
 -- the slots lie below the records
 pub over-kept : {a e : ℕ} {w w′ : List ℕ} → Keeps a e w w′ → recordAt 0 ≤ a → (o n : ℕ) {ms : List Message} → o < slots → Over w o n ms → Over w′ o n ms
-over-kept keeps h o n ho over = record { shows = window-kept keeps (inl h) o n ho ∙ over .shows; valid = over .valid }
+over-kept {w = w} {w′} keeps h o n ho over = record {
+  shows =
+      live-slots w′ (ring o n)
+      ∙ ap (select (λ (x : Slot). ltb 0 (x .size))) (window-kept keeps (inl h) o n ho)
+      ∙ sym (live-slots w (ring o n))
+      ∙ over .shows;
+  valid = over .valid;
+}
 
 module _ {q : ℕ} {hs : List ℕ} {l : Ranked} {fs w w′ : List ℕ} (kept : StoredKept q hs l fs w w′) where
   pub thresholds-stored : (n : ℕ) → n ≤ 8 → thresholds w′ q n ≡ take n hs

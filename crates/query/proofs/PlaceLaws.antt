@@ -2,7 +2,7 @@
 use Prim.Native.Nat.{ℕ, _+_, _-_, _≤_, _<_}
 use native.Mathlib.Omega.{arith}
 use mathlib.Core.Path.{_≡_, refl, sym, ap, _∙_}
-use mathlib.Core.List.{List, map}
+use mathlib.Core.List.{List, [], _∷_, _++_, map}
 use lib.ListN.{length, getD, take, drop, length-take, length-drop}
 use lib.Seq.{getD-take, getD-drop}
 use borrow.Author.Tests.{eq-eqb, ne-eqb, lt-leb, le-leb, le-ltb, lt-ltb}
@@ -12,8 +12,9 @@ use Rattle.paper.specs.Layout.{slots, stateWords, listedIn, serialsIn, scoresIn
 use Rattle.rank.specs.declared.Ranked.{Ranked}
 use Rattle.rank.specs.Listing.{listed, linesOf, lastOf, Tidy, Kept, Removed, grown, without, withouts}
 use Rattle.rank.proofs.LineLaws.{length-listed, last-listed}
-use Rattle.window.specs.Slot.{slot, next, window}
+use Rattle.window.specs.Slot.{slot, next, ring}
 use Rattle.window.proofs.RingLaws.{ring-step, ring-none}
+use Rattle.query.specs.declared.Move.{Move}
 use Rattle.query.specs.Record.{list}
 use Rattle.query.specs.Post.{Clamped, Least, WithoutGone, WithNewest}
 
@@ -66,7 +67,12 @@ module _ (w : List ℕ) (q : ℕ) {n : ℕ} (long : length w ≡ stateWords) (nu
 
 -- the serials of n slots from slot o on
 abbrev serialsOf : List ℕ → ℕ → ℕ → List ℕ
-serialsOf w o n = map (λ x. x .serial) (window w o n)
+serialsOf w o n = map (λ j. slot w j .serial) (ring o n)
+
+withouts-append : (xs ys : List ℕ) (l : List Line) → withouts (xs ++ ys) l ≡ withouts ys (withouts xs l)
+unfolding withouts
+withouts-append [] ys l = refl
+withouts-append (x ∷ xs) ys l = withouts-append xs ys (without x l)
 
 -- what is left to be taken out of the list that stands makes it the first one without all of them
 pub record Leaving (w : List ℕ) (o d : ℕ) (l : Ranked) (j n : ℕ) (r : Ranked) : Type 0 where
@@ -77,29 +83,48 @@ pub record Leaving (w : List ℕ) (o d : ℕ) (l : Ranked) (j n : ℕ) (r : Rank
 pub leaving-all : {w : List ℕ} {o d : ℕ} {l : Ranked} → Leaving w o d l o d l
 leaving-all = record { within = omega arith; tidy = λ t. t; left = refl }
 
-module _ {w : List ℕ} {o d : ℕ} {l : Ranked} {j n : ℕ} {r : Ranked} (p : Leaving w o d l j n r) where
-  pub leaving-next : {serial : ℕ} {r′ : Ranked} → 0 < n → serial ≡ slot w j .serial → Removed serial r r′ → Leaving w o d l (next j) (n - 1) r′
+pub leaving-next : {w : List ℕ} {o d : ℕ} {l : Ranked} {j n : ℕ} {r : Ranked} → Leaving w o d l j n r → {serial : ℕ} {r′ : Ranked} → 0 < n
+    → serial ≡ slot w j .serial → Removed serial r r′ → Leaving w o d l (next j) (n - 1) r′
+unfolding withouts
+leaving-next {w} {j = j} {n} {r} p some e out = record {
+  within = let a = p .within in let b = out .within in omega arith;
+  tidy = λ t. out .tidy;
+  left =
+      ap (withouts (serialsOf w (next j) (n - 1))) (out .list ∙ ap (λ (s : ℕ). without s (linesOf r)) e)
+      ∙ sym (ap (λ (js : List ℕ). withouts (map (λ j. slot w j .serial) js) (linesOf r)) (ring-step j n some))
+      ∙ p .left;
+}
+
+-- all that departed are out: there is a cancelled message, or none
+module _ {w : List ℕ} (m : Move) {l : Ranked} {j n : ℕ} {r : Ranked} (p : Leaving w (m .gone) (m .departed) l j n r) (none : n ≤ 0) {went least : ℕ}
+    (high : least ≤ went) where
+  departed-out : linesOf r ≡ withouts (serialsOf w (m .gone) (m .departed)) (linesOf l)
   unfolding withouts
-  leaving-next {serial} {r′} some e out = record {
+  departed-out = sym (ap (λ (js : List ℕ). withouts (map (λ j. slot w j .serial) js) (linesOf r)) (ring-none j n none)) ∙ p .left
+
+  pub cancelled-leaves : {r′ : Ranked} → m .cancelled < slots → Removed (m .serial) r r′ → WithoutGone w m went least l r′
+  unfolding withouts
+  cancelled-leaves h out = record {
     within = let a = p .within in let b = out .within in omega arith;
     tidy = λ t. out .tidy;
-    left =
-        ap (withouts (serialsOf w (next j) (n - 1))) (out .list ∙ ap (λ (s : ℕ). without s (linesOf r)) e)
-        ∙ sym (ap (λ (js : List ℕ). withouts (map (λ x. x .serial) (map (slot w) js)) (linesOf r)) (ring-step j n some))
-        ∙ p .left;
+    list-is =
+        rw (le-leb least went high, lt-ltb (m .cancelled) slots h)
+        (out .list
+        ∙ ap (without (m .serial)) departed-out
+        ∙ sym (withouts-append (serialsOf w (m .gone) (m .departed)) (m .serial ∷ []) (linesOf l)));
   }
 
-  pub leaving-end : {went least : ℕ} → n ≤ 0 → least ≤ went → WithoutGone w o d went least l r
+  pub none-cancelled : slots ≤ m .cancelled → WithoutGone w m went least l r
   unfolding withouts
-  leaving-end {went} {least} none h = record {
+  none-cancelled h = record {
     within = p .within;
     tidy = p .tidy;
     list-is =
-        rw (le-leb least went h)
-        (sym (ap (λ (js : List ℕ). withouts (map (λ x. x .serial) (map (slot w) js)) (linesOf r)) (ring-none j n none)) ∙ p .left);
+        rw (le-leb least went high, le-ltb (m .cancelled) slots h)
+        (departed-out ∙ sym (withouts-append (serialsOf w (m .gone) (m .departed)) [] (linesOf l)));
   }
 
-pub none-leave : {w : List ℕ} {o d went least : ℕ} {l : Ranked} → went < least → WithoutGone w o d went least l l
+pub none-leave : {w : List ℕ} {m : Move} {went least : ℕ} {l : Ranked} → went < least → WithoutGone w m went least l l
 none-leave {went = went} {least} h = record { within = omega arith; tidy = λ t. t; list-is = rw (lt-leb least went h) }
 
 -- ---- what came goes in

@@ -25,7 +25,7 @@ use Rattle.window.specs.Slot.{slot, ring}
 use Rattle.candidates.proofs.MatchLaws.{slot-in, in-ring}
 use Rattle.candidates.specs.Match.{exceedsCells}
 use Rattle.candidates.specs.Flags.{flagOf, inRing}
-use Rattle.query.specs.Record.{thresholds, flags, list, candidates, Says, Holds, HoldsAt, SameRecord}
+use Rattle.query.specs.Record.{thresholds, flags, list, candidates, Says, Held, HeldAt, HoldsAt, SameRecord}
 
 -- functions that agree on a list's elements
 pub map-agree : {A B : Type 0} (f g : A → B) (l : List A) → ((x : A) → In x l → f x ≡ g x) → map f l ≡ map g l
@@ -58,6 +58,25 @@ module _ {a e : ℕ} {w w′ : List ℕ} (kept : Keeps a e w w′) where
   pub record-same : (q : ℕ) → (recordAt q + recordWords ≤ a) ⊎ (e ≤ recordAt q) → SameRecord w w′ q
   record-same q out i h = keeps-at kept (recordAt q + i) (⊎-elim (λ d. inl (omega arith)) (λ d. inr (omega arith)) out)
 
+-- slots that are left alone
+module _ (w w′ : List ℕ) (o n : ℕ) (first : o < slots) (same : (j : ℕ) → j < slots → inRing o n j ≡ true → slot w′ j ≡ slot w j) where
+  candidates-seen : (v : List ℕ) (q : ℕ) → candidates w′ v q o n ≡ candidates w v q o n
+  unfolding candidates
+  candidates-seen v q =
+      map-agree (λ j. slot w′ j .serial) (λ j. slot w j .serial) (select (flagOf (flags v q)) (ring o n))
+      (λ j m. let r = in-ring o n j first (select-in (flagOf (flags v q)) j (ring o n) m .0) in ap (λ x. x .serial) (same j (r .0) (r .1)))
+
+  seen-same : {v : List ℕ} {q : ℕ} {ms : List Message} {query : Query} → Held w v q o n ms query → Held w′ v q o n ms query
+  seen-same {v} {q} {ms} {query} h = record {
+    says = h .says;
+    settled = rw (candidates-seen v q) (h .settled);
+    flagged = λ j. h .flagged j ∙ cells-same w w′ (query .terms) (thresholds v q (length (query .terms))) o n j (λ e. same j (slot-in o n j e) e);
+    no-threshold = h .no-threshold;
+    listed-most = h .listed-most;
+    no-serial = h .no-serial;
+    no-score = h .no-score;
+  }
+
 -- a whole record, word for word the same
 module _ (w w′ : List ℕ) (q : ℕ) (long : length w′ ≡ length w) (record-is : SameRecord w w′ q) where
   word-same : (i : ℕ) → recordAt q ≤ i → i < recordAt q + recordWords → getD w′ i 0 ≡ getD w i 0
@@ -72,7 +91,7 @@ module _ (w w′ : List ℕ) (q : ℕ) (long : length w′ ≡ length w) (record
   unfolding thresholds
   thresholds-same n h = part-same (thresholdsIn q) n (omega arith) (omega arith)
 
-  pub flags-same : flags w′ q ≡ flags w q
+  flags-same : flags w′ q ≡ flags w q
   unfolding flags
   flags-same = part-same (flagsIn q) flagWords (omega arith) (omega arith)
 
@@ -89,35 +108,42 @@ module _ (w w′ : List ℕ) (q : ℕ) (long : length w′ ≡ length w) (record
   unfolding list
   list-same = rw (size-same, serials-same, scores-same)
 
+  candidates-same : (w₀ : List ℕ) (o n : ℕ) → candidates w₀ w′ q o n ≡ candidates w₀ w q o n
+  unfolding candidates
+  candidates-same w₀ o n = rw flags-same
+
+  held-same : {w₀ : List ℕ} {o n : ℕ} {ms : List Message} {query : Query} → Terms query → Held w₀ w q o n ms query → Held w₀ w′ q o n ms query
+  held-same {w₀} {o} {n} {ms} {query} t h =
+      let m = t .terms .at-most in
+      let hs = thresholds-same (length (query .terms)) (omega arith) in
+      record {
+        says = says-by w w′ (λ i l k. word-same i l (omega arith)) (h .says);
+        settled = rw (hs, candidates-same w₀ o n, list-same) (h .settled);
+        flagged = λ j. rw (flags-same, hs) (h .flagged j);
+        no-threshold = λ i l k. word-same (thresholdsIn q + i) (omega arith) (omega arith) ∙ h .no-threshold i l k;
+        listed-most = rw size-same (h .listed-most);
+        no-serial = rw (size-same, serials-same) (h .no-serial);
+        no-score = rw (size-same, scores-same) (h .no-score);
+      }
+
+  pub held-at-same : (w₀ : List ℕ) (o n : ℕ) (ms : Query → List Message) (x : Option Query) → ((query : Query) → x ≡ some query → Terms query)
+      → HeldAt w₀ w q o n ms x → HeldAt w₀ w′ q o n ms x
+  held-at-same w₀ o n ms none t h = λ i l. record-is i l ∙ h i l
+  held-at-same w₀ o n ms (some query) t h = held-same (t query refl) h
+
+  -- the slots as they were
+  pub held-at : (o n : ℕ) (ms : Query → List Message) (x : Option Query) → ((query : Query) → x ≡ some query → Terms query)
+      → HoldsAt w q o n ms x → HeldAt w w′ q o n ms x
+  held-at = held-at-same w
+
   module _ (o n : ℕ) (first : o < slots) (same : (j : ℕ) → j < slots → inRing o n j ≡ true → slot w′ j ≡ slot w j) where
-    pub candidates-same : candidates w′ q o n ≡ candidates w q o n
-    unfolding candidates
-    candidates-same =
-        rw flags-same
-        (map-agree (λ j. slot w′ j .serial) (λ j. slot w j .serial) (select (flagOf (flags w q)) (ring o n))
-        (λ j m. let r = in-ring o n j first (select-in (flagOf (flags w q)) j (ring o n) m .0) in ap (λ x. x .serial) (same j (r .0) (r .1))))
-
-    holds-same : {ms : List Message} {query : Query} → Terms query → Holds w q o n ms query → Holds w′ q o n ms query
-    holds-same {ms} {query} t h =
-        let m = t .terms .at-most in
-        let hs = thresholds-same (length (query .terms)) (omega arith) in
-        record {
-          says = says-by w w′ (λ i l k. word-same i l (omega arith)) (h .says);
-          settled = rw (hs, candidates-same, list-same) (h .settled);
-          flagged = λ j. rw (flags-same, hs) (h .flagged j ∙ cells-same w w′ (query .terms) (thresholds w q (length (query .terms))) o n j (λ e. same j (slot-in o n j e) e));
-          no-threshold = λ i l k. word-same (thresholdsIn q + i) (omega arith) (omega arith) ∙ h .no-threshold i l k;
-          listed-most = rw size-same (h .listed-most);
-          no-serial = rw (size-same, serials-same) (h .no-serial);
-          no-score = rw (size-same, scores-same) (h .no-score);
-        }
-
     pub holds-at-same : (ms : Query → List Message) (x : Option Query) → ((query : Query) → x ≡ some query → Terms query) → HoldsAt w q o n ms x → HoldsAt w′ q o n ms x
     holds-at-same ms none t h = λ i l. record-is i l ∙ h i l
-    holds-at-same ms (some query) t h = holds-same (t query refl) h
+    holds-at-same ms (some query) t h = seen-same w w′ o n first same (held-same (t query refl) h)
 
 -- ---- which are in use
 
-pub in-use-is : (w : List ℕ) (q o n : ℕ) (ms : Query → List Message) (x : Option Query) → ((query : Query) → x ≡ some query → Terms query) → HoldsAt w q o n ms x
-    → not (eqb (getD w (recordAt q) 0) 0) ≡ inUse x
-in-use-is w q o n ms none t h = ap not (eq-eqb _ 0 (rw add-zero at (h 0 (omega arith))))
-in-use-is w q o n ms (some query) t h = ap not (ne-eqb (getD w (recordAt q) 0) 0 (λ z. omega (arith, h .says .k, t query refl .k-least)))
+pub in-use-is : (w₀ w : List ℕ) (q o n : ℕ) (ms : Query → List Message) (x : Option Query) → ((query : Query) → x ≡ some query → Terms query)
+    → HeldAt w₀ w q o n ms x → not (eqb (getD w (recordAt q) 0) 0) ≡ inUse x
+in-use-is w₀ w q o n ms none t h = ap not (eq-eqb _ 0 (rw add-zero at (h 0 (omega arith))))
+in-use-is w₀ w q o n ms (some query) t h = ap not (ne-eqb (getD w (recordAt q) 0) 0 (λ z. omega (arith, h .says .k, t query refl .k-least)))

@@ -15,13 +15,12 @@ use Rattle.paper.specs.Frame.{Pair, mostListed}
 use Rattle.paper.specs.Impact.{top, score}
 use Rattle.paper.specs.Order.{In, entryAt}
 use Rattle.paper.specs.Rank as Rank
-use Rattle.paper.specs.Rank.{Entry, lines, serials, ranking}
+use Rattle.paper.specs.Rank.{Entry, lines, ranking}
 use Rattle.paper.specs.Sort.{select}
 use Rattle.paper.specs.Window.{Message}
 use Rattle.paper.specs.Write.{side-by-side}
 use Rattle.paper.specs.Sound.{Messages, Terms}
 use Rattle.paper.specs.Threshold.{exceeds, exceedsBy, thresholdSum, lastScore, Tight, Settled}
-use Rattle.paper.specs.Threshold as Threshold
 use Rattle.paper.specs.Layout.{slots}
 use Rattle.paper.proofs.RankLaws.{ranking-right, ranking-length}
 use Rattle.paper.proofs.Tests.{and-true, by-bool}
@@ -34,18 +33,18 @@ use Rattle.rank.specs.Listing.{linesOf, lastOf}
 use Rattle.rank.specs.Weights.{weightedSum, Raised}
 use Rattle.rank.proofs.LineLaws.{length-listed}
 use Rattle.rank.proofs.PaperLaws.{lines-last, threshold-sum, raised-tight}
-use Rattle.window.specs.Slot.{slot, stored, ring}
-use Rattle.window.proofs.SlotLaws.{slot-kept}
+use Rattle.window.specs.Slot.{slot, stored, ring, live}
+use Rattle.window.proofs.SlotLaws.{slot-kept, live-in}
 use Rattle.candidates.specs.declared.Query.{Query}
 use Rattle.candidates.specs.Match.{exceedsCells, scored}
 use Rattle.candidates.specs.Flags.{flagOf, inRing}
 use Rattle.candidates.specs.Post.{termsOf, lineIn, grows}
 use Rattle.candidates.specs.Rows.{Having, Rows, RankedRows, SiftedRows}
-use Rattle.candidates.proofs.MatchLaws.{slot-in, in-ring, ring-in, ranking-stored}
-use Rattle.candidates.proofs.RowLaws.{having-grows, having-exceeds}
-use Rattle.query.specs.Record.{thresholds, flags, candidates, keptOf, Says, Holds}
+use Rattle.candidates.proofs.MatchLaws.{slot-in, in-ring, ring-in, ranking-stored, taken-live}
+use Rattle.candidates.proofs.RowLaws.{having-live, having-grows, having-exceeds}
+use Rattle.query.specs.Record.{thresholds, flags, keptOf, Says, Holds}
 use Rattle.query.specs.Post.{InRange, Is, sumOf, Lifted, secure, sameFrom, StoredKept, Over, Shown, Ready, Exact}
-use Rattle.query.proofs.ChosenLaws.{messages-select, chosen, serials-of}
+use Rattle.query.proofs.ChosenLaws.{messages-select, chosen, candidates-are}
 use Rattle.query.proofs.LiftLaws.{secure-safe}
 use Rattle.query.proofs.RecordLaws.{cells-same, says-same}
 use Rattle.query.proofs.KeptLaws.{over-kept, thresholds-stored, threshold-stored, flags-stored, list-stored}
@@ -226,20 +225,12 @@ module _ {w : List ℕ} {q o n : ℕ} {fs : List ℕ} {r : Query} {hs hs′ : Li
         ∙ exact j
         ∙ rw first-ones (cells-same w w′ (query .terms) (take (r .n) hs′) o n j (λ i. let h = slot-in o n j i in slot-kept (kept .keeps) j (inl (omega arith))))
 
-    above : candidates w′ q o n ≡ serials (Threshold.candidates (query .terms) (thresholds w′ q (length (query .terms))) ms)
-    unfolding candidates
-    above =
-        serials-of w′ (select (flagOf (flags w′ q)) (ring o n)) (Threshold.candidates (query .terms) (thresholds w′ q (length (query .terms))) ms)
-        (chosen w′ o n ms over′ (query .terms) (thresholds w′ q (length (query .terms))) (flagOf (flags w′ q))
-        (λ j m. let i = in-ring o n j ho m in
-        flagged j ∙ ap (λ (b : Bool). b && exceedsCells (query .terms) (thresholds w′ q (length (query .terms))) (slot w′ j .cells)) (i .1)))
-
     settled : Settled query ms (keptOf w′ q o n (length (query .terms)))
     settled = record {
       one-each = ap length first-ones ∙ length-take-le (r .n) hs′ (omega (arith, most)) ∙ ready .is .n;
       in-scale = λ i. rw first-ones (⊎-elim (λ a. omega (arith, settled-by .in-scale i (a .1))) (λ a. omega arith) (cut (r .n) hs′ i));
       ranked = list-stored kept ∙ ready .ranked;
-      above = above;
+      above = candidates-are q (query .terms) (thresholds w′ q (length (query .terms))) ho over′ flagged;
       full = λ e. rw first-ones (settled-by .full e);
       short = λ h i. rw first-ones (⊎-elim (λ a. a .0 ∙ settled-by .short h i) (λ a. a .0) (cut (r .n) hs′ i));
     }
@@ -337,7 +328,8 @@ module _ {w : List ℕ} {q o n : ℕ} {fs : List ℕ} {r : Query} {l : Ranked} {
   listed-those =
       by .right looked (is .rising) (is .known)
       ∙ having-grows picked (is .rising) (is .known) (r .k)
-      ∙ listed-is w (select (flagOf fs) (ring o n)) those is (shown .shows) (messages-select (shown .test) ms (over .valid))
+      ∙ sym (having-grows (having-live {q = r} (flagOf fs) (ring o n)) (is .rising) (is .known) (r .k))
+      ∙ listed-is w (select (flagOf fs) (live w (ring o n))) those is (shown .shows) (messages-select (shown .test) ms (over .valid))
 
   safe-those : Safe sum (query .k) (ranking query those)
   safe-those =
@@ -385,8 +377,11 @@ pub shown-exact : {w : List ℕ} {o n : ℕ} {fs : List ℕ} {ms : List Message}
 shown-exact {w} {o} {n} {fs} {ms} {qs} {hs} ho over exact = record {
   test = λ m. exceeds qs hs (m .pairs);
   covers = λ m e. e;
-  shows = chosen w o n ms over qs hs (flagOf fs) (λ j m. let i = in-ring o n j ho m in exact j (i .0) (i .1));
+  shows = ap (map (slot w)) (taken-live w (ring o n) qs hs (flagOf fs) inside) ∙ chosen w o n ms over qs hs (flagOf fs) inside;
 }
+  where
+    inside : (j : ℕ) → In j (ring o n) → flagOf fs j ≡ exceedsCells qs hs (slot w j .cells)
+    inside j m = let i = in-ring o n j ho m in exact j (i .0) (i .1)
 
 -- all of the window
 abbrev pub allFlags : List ℕ
@@ -398,19 +393,19 @@ all-flagged j h =
     let ones : bits 32 4294967295 ≡ replicate 32 true = refl in
     rw (getD-replicate {A = ℕ} 9 (j / 32) 4294967295 0 (omega arith), ones) (getD-replicate 32 (j % 32) true false (omega arith))
 
-all-picked : (o n : ℕ) → o < slots → select (flagOf allFlags) (ring o n) ≡ ring o n
-all-picked o n ho = select-all (flagOf allFlags) (ring o n) (λ j m. all-flagged j (in-ring o n j ho m .0))
+all-picked : (js : List ℕ) → ((j : ℕ) → In j js → j < slots) → select (flagOf allFlags) js ≡ js
+all-picked js below = select-all (flagOf allFlags) js (λ j m. all-flagged j (below j m))
 
 -- of all slots, those with one of the terms
 pub having-all : {w : List ℕ} {r : Query} {js : List ℕ} (o n : ℕ) → o < slots → Having w r (ring o n) js → Having w r (select (flagOf allFlags) (ring o n)) js
-having-all {w} {r} {js} o n ho h = subst (λ (xs : List ℕ). Having w r xs js) (sym (all-picked o n ho)) h
+having-all {w} {r} {js} o n ho h = subst (λ (xs : List ℕ). Having w r xs js) (sym (all-picked (ring o n) (λ j m. in-ring o n j ho m .0))) h
 
 pub shown-all : {w : List ℕ} {o n : ℕ} {ms : List Message} {qs : List Pair} {hs : List ℕ} → o < slots → Over w o n ms → Shown w o n allFlags ms qs hs
 shown-all {w} {o} {n} {ms} ho over = record {
   test = λ m. true;
   covers = λ m e. refl;
   shows =
-      ap (map (slot w)) (all-picked o n ho)
+      ap (map (slot w)) (all-picked (live w (ring o n)) (λ j m. in-ring o n j ho (live-in w (ring o n) j m .0) .0))
       ∙ over .shows
       ∙ sym (ap (map stored) (select-all (λ m. true) ms (λ m i. refl)));
 }

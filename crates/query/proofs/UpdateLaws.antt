@@ -1,9 +1,9 @@
 -- The three ends of an update: the frame doesn't reach the query, it changes its list, or it changes its candidates alone. Assumes nothing.
 use Prim.Native.Nat.{ℕ, _+_}
 use native.Mathlib.Omega.{arith}
-use mathlib.Core.Path.{_≡_, refl, sym, subst, _∙_}
+use mathlib.Core.Path.{_≡_, refl, sym, _∙_}
 use mathlib.Core.Bool.{Bool, true, false, _||_, true≢false}
-use mathlib.Core.List.{List, _++_}
+use mathlib.Core.List.{List}
 use lib.Dec.{leb}
 use borrow.Author.Tests.{leb-false}
 use Rattle.paper.specs.Layout.{recordAt, recordWords, listedIn}
@@ -11,7 +11,6 @@ use Rattle.paper.proofs.Tests.{or-false}
 use Rattle.memory.proofs.KeepsLaws.{keeps-refl, keeps-wider}
 use Rattle.query.specs.declared.Move.{Move}
 use Rattle.query.specs.declared.Touch.{Touch}
-use Rattle.query.specs.Record.{Holds}
 use Rattle.query.specs.Touch.{Touched}
 use Rattle.query.specs.Post.{MovedFlags, Least, KeptList, Changed, Updated}
 use Rattle.query.proofs.MoveLaws.{answered, told, stays-right}
@@ -23,9 +22,9 @@ module _ {w : List ℕ} {q : ℕ} {m : Move} {coming going : List ℕ} {touch : 
   unreached e = record {
     keeps = keeps-refl (listedIn q) (recordAt q + recordWords) w;
     untouched = λ z. refl;
-    right = λ s aa ga sa ca query tables change counted terms holds.
-        let a = sym e ∙ test ∙ answered touched tables change terms holds in
-        (a, subst (λ (n : ℕ). Holds w q (m .first) n (sa ++ ca) query) (sym counted) (stays-right change holds (sym a)));
+    right = λ w₀ o n aa ga sa ca query tables change terms held.
+        let a = sym e ∙ test ∙ answered touched tables change terms held in
+        (a, stays-right change held (sym a));
   }
 
   module _ (e : b ≡ true) {fs : List ℕ} {least : ℕ} (flags-are : MovedFlags w q m (touch .comes) fs) (least-is : Least w q least) {w′ : List ℕ} where
@@ -33,10 +32,10 @@ module _ {w : List ℕ} {q : ℕ} {m : Move} {coming going : List ℕ} {touch : 
     changes changed = record {
       keeps = changed .keeps;
       untouched = λ z. absurd (true≢false z);
-      right = λ s aa ga sa ca query tables change counted terms holds. (
-        sym e ∙ test ∙ answered touched tables change terms holds,
-        changed .right s aa ga sa ca query change counted terms holds (least-is .is query terms (holds .says) (holds .listed-most))
-            (told touched tables change terms holds counted flags-are),
+      right = λ w₀ o n aa ga sa ca query tables change terms held. (
+        sym e ∙ test ∙ answered touched tables change terms held,
+        changed .right w₀ o n aa ga sa ca query change terms held (least-is .is query terms (held .says) (held .listed-most))
+            (told touched tables change terms held flags-are),
       );
     }
 
@@ -45,10 +44,10 @@ module _ {w : List ℕ} {q : ℕ} {m : Move} {coming going : List ℕ} {touch : 
     stands low none kept = record {
       keeps = keeps-wider (omega arith) (omega arith) (kept .keeps);
       untouched = λ z. absurd (true≢false z);
-      right = λ s aa ga sa ca query tables change counted terms holds.
+      right = λ w₀ o n aa ga sa ca query tables change terms held.
           let p = or-false (leb least (touch .came)) (leb least (touch .went)) (sym low ∙ none) in (
-            sym e ∙ test ∙ answered touched tables change terms holds,
-            still-holds change counted terms holds (least-is .is query terms (holds .says) (holds .listed-most))
-                (told touched tables change terms holds counted flags-are) (leb-false least (touch .came) (p .0)) (leb-false least (touch .went) (p .1)) kept,
+            sym e ∙ test ∙ answered touched tables change terms held,
+            still-holds change terms held (least-is .is query terms (held .says) (held .listed-most))
+                (told touched tables change terms held flags-are) (leb-false least (touch .came) (p .0)) (leb-false least (touch .went) (p .1)) kept,
           );
     }

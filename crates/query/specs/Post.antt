@@ -1,12 +1,13 @@
 -- What each function over a record ensures. Assumes nothing.
-use Prim.Native.Nat.{ℕ, zero, suc, _+_, _*_, _≤_, _<_}
+use Prim.Native.Nat.{ℕ, zero, suc, _+_, _*_, _^_, _≤_, _<_}
 use mathlib.Core.Path.{_≡_}
 use mathlib.Core.Bool.{Bool, true, false, cond, _&&_, _||_}
 use mathlib.Core.List.{List, [], _∷_, _++_, map}
 use lib.ListN.{length, getD, take, drop}
 use lib.Dec.{eqb, leb, ltb}
-use Rattle.paper.specs.Frame.{mostTerms, mostListed, Pair}
+use Rattle.paper.specs.Frame.{mostTerms, mostListed, serialWidth, Pair}
 use Rattle.paper.specs.Impact.{top, score}
+use Rattle.paper.specs.Log.{hasSerial}
 use Rattle.paper.specs.Rank.{lines, ranking}
 use Rattle.paper.specs.Rank as Rank
 use Rattle.paper.specs.Window.{Message}
@@ -18,18 +19,18 @@ use Rattle.paper.specs.Sound.{Distinct, Messages, Terms}
 use Rattle.memory.specs.Keeps.{Keeps}
 use Rattle.impact.specs.Cell.{RisingTerms}
 use Rattle.rank.specs.declared.Ranked.{Ranked}
-use Rattle.rank.specs.Listing.{linesOf, lastOf, leastOf, Tidy, grown, withouts}
+use Rattle.rank.specs.Listing.{linesOf, lastOf, leastOf, Tidy, grown, withouts, hasNumber}
 use Rattle.rank.specs.Weights.{weightLimit, weightedSum, Raised}
-use Rattle.window.specs.Slot.{slot, stored, ring, window}
+use Rattle.window.specs.Slot.{slot, stored, ring, live}
 use Rattle.window.specs.Table.{TableOf}
 use Rattle.candidates.specs.declared.Query.{Query}
 use Rattle.candidates.specs.Match.{exceedsCells}
 use Rattle.candidates.specs.Flags.{flagOf, inRing}
-use Rattle.candidates.specs.Post.{termsOf, Without}
+use Rattle.candidates.specs.Post.{termsOf}
 use Rattle.candidates.specs.Rows.{Known, Having, Rows}
 use Rattle.query.specs.declared.Move.{Move}
 use Rattle.query.specs.declared.Touch.{Touch}
-use Rattle.query.specs.Record.{thresholds, flags, list, Says, Holds}
+use Rattle.query.specs.Record.{thresholds, flags, list, Says, Held, Holds}
 
 -- ---- reading
 
@@ -103,9 +104,9 @@ pub record StoredKept (q : ℕ) (hs : List ℕ) (list : Ranked) (fs : List ℕ) 
   pub scores : take mostListed (drop (scoresIn q) w′) ≡ list .scores
   pub flags : take flagWords (drop (flagsIn q) w′) ≡ fs
 
--- the window that a query is settled over: `count` slots from slot `first` on hold these messages
+-- the window that a query is settled over: of `count` slots from slot `first` on the live ones hold these messages
 pub record Over (w : List ℕ) (first count : ℕ) (ms : List Message) : Type 0 where
-  pub shows : window w first count ≡ map stored ms
+  pub shows : map (slot w) (live w (ring first count)) ≡ map stored ms
   pub valid : Messages ms
 
 -- What is needed of the list and the thresholds that settling ends with: the list is the ranking, the thresholds are safe for it, and whoever
@@ -122,11 +123,11 @@ pub record Ready (w : List ℕ) (q first count : ℕ) (ms : List Message) (query
   pub short : length (ranking query ms) < query .k → (i : ℕ) → getD hs i 0 ≡ 0
   pub taken : (j : ℕ) → j < slots → inRing first count j ≡ true → exceedsCells (query .terms) (take (r .n) hs) (slot w j .cells) ≡ true → flagOf fs j ≡ true
 
--- the flagged slots of the window hold some of its messages, all that exceed a threshold among them
+-- the flagged slots of the window that are live hold some of its messages, all that exceed a threshold among them
 pub record Shown (w : List ℕ) (first count : ℕ) (fs : List ℕ) (ms : List Message) (qs : List Pair) (hs : List ℕ) : Type 0 where
   pub test : Message → Bool
   pub covers : (m : Message) → exceeds qs hs (m .pairs) ≡ true → test m ≡ true
-  pub shows : map (slot w) (select (flagOf fs) (ring first count)) ≡ map stored (select test ms)
+  pub shows : map (slot w) (select (flagOf fs) (live w (ring first count))) ≡ map stored (select test ms)
 
 -- Thresholds that were raised beside the list are stored with it, and those of the messages looked at that exceed one of them as candidates. Looked at
 -- are those flagged, all or those that have one of the query's terms.
@@ -177,15 +178,28 @@ pub record SettledFrom (w : List ℕ) (q first count : ℕ) (fs : List ℕ) (r :
 
 -- ---- a frame
 
--- the slot of an arriving message, none where there is no such slot
+-- the slot of an arriving message, or of a cancelled one; none where there is no such slot
 abbrev pub arriving : ℕ → List ℕ
-arriving newest = cond (ltb newest slots) (newest ∷ []) []
+arriving j = cond (ltb j slots) (j ∷ []) []
 
--- the flags without those of the slots that left, and with that of the arriving message where there is one
+-- the slots whose messages leave: those from slot `gone` on, and the cancelled one
+abbrev pub leaving : Move → List ℕ
+leaving m = ring (m .gone) (m .departed) ++ arriving (m .cancelled)
+
+-- the serials that go out of a list
+abbrev pub leavingSerials : List ℕ → Move → List ℕ
+leavingSerials w m = map (λ j. slot w j .serial) (ring (m .gone) (m .departed)) ++ cond (ltb (m .cancelled) slots) (m .serial ∷ []) []
+
+-- the flags without that of slot j, where there is such a slot
+pub record WithoutOne (fs : List ℕ) (j : ℕ) (r : List ℕ) : Type 0 where
+  pub gone : (i : ℕ) → In i (arriving j) → flagOf r i ≡ false
+  pub others : (i : ℕ) → (In i (arriving j) → ⊥) → flagOf r i ≡ flagOf fs i
+
+-- the flags with that of the arriving message where there is one, and without those of the messages that leave
 pub record MovedFlags (w : List ℕ) (q : ℕ) (m : Move) (comes : Bool) (r : List ℕ) : Type 0 where
-  pub rest : List ℕ
-  pub left : Without (flags w q) (m .gone) (m .departed) rest
-  pub is : (j : ℕ) → flagOf r j ≡ cond (ltb (m .newest) slots && eqb j (m .newest)) comes (flagOf rest j)
+  pub new : (j : ℕ) → In j (arriving (m .newest)) → flagOf r j ≡ comes
+  pub gone : (j : ℕ) → (In j (arriving (m .newest)) → ⊥) → In j (leaving m) → flagOf r j ≡ false
+  pub others : (j : ℕ) → (In j (arriving (m .newest)) → ⊥) → (In j (leaving m) → ⊥) → flagOf r j ≡ flagOf (flags w q) j
 
 pub record Least (w : List ℕ) (q r : ℕ) : Type 0 where
   pub is : (query : Rank.Query) → Terms query → Says w q query → getD w (listedIn q) 0 ≤ mostListed → r ≡ leastOf (query .k) (list w q)
@@ -195,11 +209,11 @@ pub record KeptList (w : List ℕ) (q : ℕ) (fs w′ : List ℕ) : Type 0 where
   pub keeps : Keeps (flagsIn q) (recordAt q + recordWords) w w′
   pub flags-are : flags w′ q ≡ fs
 
--- the messages of d slots from slot o on are taken out of a list, where one of them may change it
-pub record WithoutGone (w : List ℕ) (o d went least : ℕ) (l r : Ranked) : Type 0 where
+-- the messages that leave are taken out of a list, where one of them may change it
+pub record WithoutGone (w : List ℕ) (m : Move) (went least : ℕ) (l r : Ranked) : Type 0 where
   pub within : r .count ≤ l .count
   pub tidy : Tidy l → Tidy r
-  pub list-is : linesOf r ≡ cond (leb least went) (withouts (map (λ x. x .serial) (window w o d)) (linesOf l)) (linesOf l)
+  pub list-is : linesOf r ≡ cond (leb least went) (withouts (leavingSerials w m) (linesOf l)) (linesOf l)
 
 -- an arriving message is put into a list of up to k, where it changes it
 pub record WithNewest (w : List ℕ) (newest came k least : ℕ) (l r : Ranked) : Type 0 where
@@ -208,19 +222,21 @@ pub record WithNewest (w : List ℕ) (newest came k least : ℕ) (l r : Ranked) 
   pub list-is : l .count ≤ k
       → linesOf r ≡ cond (ltb newest slots && leb least came) (grown k (record { serial = slot w newest .serial; score = came }) (linesOf l)) (linesOf l)
 
--- A change of the window, in which `aa` are: of d + s slots from slot o on, those that hold `ga` go and the s from slot o′ on, which hold `sa`,
--- stay; `ca` come.
-pub record Change (w : List ℕ) (o d o′ s newest : ℕ) (aa ga sa ca : List Message) : Type 0 where
+-- A change of the window from n slots from slot o on, as memory was in w₀, to what the move says, as it is in w: `aa` were in force, `ga` go, `sa` stay,
+-- `ca` come.
+pub record Change (w₀ w : List ℕ) (o n : ℕ) (m : Move) (aa ga sa ca : List Message) : Type 0 where
   pub first-below : o < slots
-  pub then-below : o′ < slots
-  pub small : d + s < slots
-  pub before : Split (ring o (d + s)) (ring o d) (ring o′ s)
-  pub after : ring o′ (s + length ca) ≡ ring o′ s ++ arriving newest
+  pub then-below : m .first < slots
+  pub stay-slots : List ℕ
+  pub before : Split (live w₀ (ring o n)) (live w₀ (leaving m)) stay-slots
+  pub after : live w (ring (m .first) (m .count)) ≡ stay-slots ++ arriving (m .newest)
+  pub same : (j : ℕ) → In j (stay-slots ++ arriving (m .newest)) → slot w j ≡ slot w₀ j
+  pub apart : (j : ℕ) → In j (leaving m) → In j stay-slots → ⊥
   pub split : Split aa ga sa
-  pub gone : window w o d ≡ map stored ga
-  pub stay : window w o′ s ≡ map stored sa
-  pub come : map (slot w) (arriving newest) ≡ map stored ca
-  pub apart : newest < slots → inRing o (d + s) newest ≡ false
+  pub gone : map (slot w₀) (live w₀ (leaving m)) ≡ map stored ga
+  pub stay : map (slot w₀) stay-slots ≡ map stored sa
+  pub come : map (slot w₀) (arriving (m .newest)) ≡ map stored ca
+  pub serials : (s : ℕ) → s < 2 ^ serialWidth → hasNumber s (leavingSerials w m) ≡ hasSerial s ga
   pub distinct : Distinct aa
   pub valid : Messages aa
   pub valid-new : Messages ca
@@ -238,22 +254,20 @@ pub record Told (w : List ℕ) (q o′ n : ℕ) (ga ca : List Message) (query : 
 -- the list is changed in place, and what is kept beside it follows
 pub record Changed (w : List ℕ) (q : ℕ) (m : Move) (touch : Touch) (least : ℕ) (fs w′ : List ℕ) : Type 0 where
   pub keeps : Keeps (listedIn q) (recordAt q + recordWords) w w′
-  pub right : (s : ℕ) (aa ga sa ca : List Message) (query : Rank.Query) → Change w (m .gone) (m .departed) (m .first) s (m .newest) aa ga sa ca
-      → m .count ≡ s + length ca → Terms query → Holds w q (m .gone) (m .departed + s) aa query → least ≡ leastOf (query .k) (list w q)
-      → Told w q (m .first) (m .count) ga ca query touch fs → Holds w′ q (m .first) (m .count) (sa ++ ca) query
+  pub right : (w₀ : List ℕ) (o n : ℕ) (aa ga sa ca : List Message) (query : Rank.Query) → Change w₀ w o n m aa ga sa ca → Terms query
+      → Held w₀ w q o n aa query → least ≡ leastOf (query .k) (list w q) → Told w q (m .first) (m .count) ga ca query touch fs
+      → Holds w′ q (m .first) (m .count) (sa ++ ca) query
 
--- the tables are those of the message that comes and of the messages that go
-pub record Tables (w : List ℕ) (m : Move) (coming going : List ℕ) : Type 0 where
-  pub new : TableOf (map (slot w) (arriving (m .newest))) coming
-  pub old : TableOf (window w (m .gone) (m .departed)) going
+-- the tables are those of the message that comes and of the messages that go; slots that aren't live add nothing
+pub record Tables (w₀ : List ℕ) (m : Move) (coming going : List ℕ) : Type 0 where
+  pub new : TableOf (map (slot w₀) (arriving (m .newest))) coming
+  pub old : TableOf (map (slot w₀) (leaving m)) going
 
 pub record Updated (w : List ℕ) (q : ℕ) (m : Move) (coming going : List ℕ) (r : Bool) (w′ : List ℕ) : Type 0 where
   pub keeps : Keeps (listedIn q) (recordAt q + recordWords) w w′
   pub untouched : r ≡ false → w′ ≡ w
-  pub right : (s : ℕ) (aa ga sa ca : List Message) (query : Rank.Query) → Tables w m coming going
-      → Change w (m .gone) (m .departed) (m .first) s (m .newest) aa ga sa ca → m .count ≡ s + length ca
-      → Terms query → Holds w q (m .gone) (m .departed + s) aa query
-      → (r ≡ reaches w q ga ca query) × Holds w′ q (m .first) (m .count) (sa ++ ca) query
+  pub right : (w₀ : List ℕ) (o n : ℕ) (aa ga sa ca : List Message) (query : Rank.Query) → Tables w₀ m coming going → Change w₀ w o n m aa ga sa ca
+      → Terms query → Held w₀ w q o n aa query → (r ≡ reaches w q ga ca query) × Holds w′ q (m .first) (m .count) (sa ++ ca) query
 
 -- the words of some pairs, 0 past them
 abbrev pub Packed : List Pair → List ℕ → Type 0

@@ -29,13 +29,17 @@ flags w q = take flagWords (drop (flagsIn q) w)
 unfoldable pub list : List ℕ → ℕ → List Line
 list w q = listed (getD w (listedIn q) 0) (take mostListed (drop (serialsIn q) w)) (take mostListed (drop (scoresIn q) w))
 
--- the candidates by serial, in the order of acceptance: the flagged slots of the window, which is n slots from slot o on
-unfoldable pub candidates : List ℕ → ℕ → ℕ → ℕ → List ℕ
-candidates w q o n = map (λ j. slot w j .serial) (select (flagOf (flags w q)) (ring o n))
+-- the candidates by serial, in the order of acceptance: the flagged slots of the window, which is n slots from slot o on, as they are in w₀
+unfoldable pub candidates : List ℕ → List ℕ → ℕ → ℕ → ℕ → List ℕ
+candidates w₀ w q o n = map (λ j. slot w₀ j .serial) (select (flagOf (flags w q)) (ring o n))
 
--- what is kept of a query of m terms
+-- what is kept of a query of m terms, where slots are as they are in w₀ ..
+abbrev pub heldOf : List ℕ → List ℕ → ℕ → ℕ → ℕ → ℕ → Kept
+heldOf w₀ w q o n m = record { thresholds = thresholds w q m; candidates = candidates w₀ w q o n; list = list w q }
+
+-- .. and in the same memory
 abbrev pub keptOf : List ℕ → ℕ → ℕ → ℕ → ℕ → Kept
-keptOf w q o n m = record { thresholds = thresholds w q m; candidates = candidates w q o n; list = list w q }
+keptOf w q o n m = heldOf w w q o n m
 
 -- ---- when it holds what it should
 
@@ -45,21 +49,28 @@ pub record Says (w : List ℕ) (q : ℕ) (query : Query) : Type 0 where
   pub size : getD w (sizeIn q) 0 ≡ length (query .terms)
   pub pairs : (i : ℕ) → i < mostTerms → getD w (pairsIn q + i) 0 ≡ termAt (query .terms) i * weightLimit + weightAt (query .terms) i
 
--- it says this query, and what is kept is right for the messages in the window; the places it doesn't use are 0
-pub record Holds (w : List ℕ) (q o n : ℕ) (ms : List Message) (query : Query) : Type 0 where
+-- it says this query, and what is kept is right for the messages in the window, whose slots are as they are in w₀; the places it doesn't use are 0
+pub record Held (w₀ w : List ℕ) (q o n : ℕ) (ms : List Message) (query : Query) : Type 0 where
   pub says : Says w q query
-  pub settled : Settled query ms (keptOf w q o n (length (query .terms)))
+  pub settled : Settled query ms (heldOf w₀ w q o n (length (query .terms)))
   pub flagged : (j : ℕ)
-      → flagOf (flags w q) j ≡ (inRing o n j && exceedsCells (query .terms) (thresholds w q (length (query .terms))) (slot w j .cells))
+      → flagOf (flags w q) j ≡ (inRing o n j && exceedsCells (query .terms) (thresholds w q (length (query .terms))) (slot w₀ j .cells))
   pub no-threshold : (i : ℕ) → length (query .terms) ≤ i → i < mostTerms → getD w (thresholdsIn q + i) 0 ≡ 0
   pub listed-most : getD w (listedIn q) 0 ≤ mostListed
   pub no-serial : ZeroFrom (getD w (listedIn q) 0) (take mostListed (drop (serialsIn q) w))
   pub no-score : ZeroFrom (getD w (listedIn q) 0) (take mostListed (drop (scoresIn q) w))
 
+-- the slots are in the same memory
+abbrev pub Holds : List ℕ → ℕ → ℕ → ℕ → List Message → Query → Type 0
+Holds w q o n ms query = Held w w q o n ms query
+
 -- a number not in use has a record of zeros; `ms` is what each query sees
+abbrev pub HeldAt : List ℕ → List ℕ → ℕ → ℕ → ℕ → (Query → List Message) → Option Query → Type 0
+HeldAt w₀ w q o n ms none = (i : ℕ) → i < recordWords → getD w (recordAt q + i) 0 ≡ 0
+HeldAt w₀ w q o n ms (some query) = Held w₀ w q o n (ms query) query
+
 abbrev pub HoldsAt : List ℕ → ℕ → ℕ → ℕ → (Query → List Message) → Option Query → Type 0
-HoldsAt w q o n ms none = (i : ℕ) → i < recordWords → getD w (recordAt q + i) 0 ≡ 0
-HoldsAt w q o n ms (some query) = Holds w q o n (ms query) query
+HoldsAt w q o n ms x = HeldAt w w q o n ms x
 
 -- the same record, word for word
 abbrev pub SameRecord : List ℕ → List ℕ → ℕ → Type 0

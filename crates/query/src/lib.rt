@@ -13,8 +13,8 @@ ghost use Rattle.window.specs.Table.{termLimit};
 ghost use Rattle.window.specs.Rows.{rowWidth};
 ghost use Rattle.rank.specs.Weights.{weightLimit};
 ghost use Rattle.query.specs.Touch.{Touched};
-ghost use Rattle.query.specs.Post.{Clamped, InRange, LoadedQuery, LoadedThresholds, LoadedList, Lifted, secure, sameFrom, StoredKept, Finished, Attempted};
-ghost use Rattle.query.specs.Post.{SiftedFrom, Retuned, Refilled, SettledFrom, MovedFlags, Least, KeptList, WithoutGone, WithNewest, Changed, Updated, Packed, PutQuery, Registered, Cleared};
+ghost use Rattle.query.specs.Post.{Clamped, InRange, LoadedQuery, LoadedThresholds, LoadedList, Lifted, secure, sameFrom, StoredKept, Finished, Attempted, SiftedFrom};
+ghost use Rattle.query.specs.Post.{Retuned, Refilled, SettledFrom, WithoutOne, MovedFlags, Least, KeptList, WithoutGone, WithNewest, Changed, Updated, Packed, PutQuery, Registered, Cleared};
 use candidates::Query;
 use paper::layout;
 use rank::Ranked;
@@ -238,14 +238,16 @@ fn settle(
     }
 }
 
-// What a frame moves: `departed` messages from slot `gone` on leave, the window is then `count` slots from slot `first` on, and a message arrived in slot
-// `newest` where that is one.
+// What a frame moves: `departed` messages from slot `gone` on leave, and that of slot `cancelled` with this serial where there is one; the window is then
+// `count` slots from slot `first` on, and a message arrived in slot `newest` where that is one.
 pub struct Move {
     pub gone: usize,
     pub departed: usize,
     pub first: usize,
     pub count: usize,
     pub newest: usize,
+    pub cancelled: usize,
+    pub serial: u32,
 }
 
 // What a query's terms have in the messages that come and go: whether the one that comes exceeds a threshold and its score, whether one that goes does,
@@ -302,6 +304,16 @@ fn touched(state: &[u8], q: usize, coming: &[u16], going: &[u16]) -> Touch
     }
 }
 
+// The flags without that of slot j, where there is such a slot.
+fn without_one(flags: [u32; 9], j: usize) -> [u32; 9]
+    ensures { λ r. ⌜ WithoutOne flags j r ⌝ }
+{
+    if j < layout::SLOTS {
+        return candidates::with_flag(flags, j, false);
+    }
+    flags
+}
+
 // The candidates' flags at the thresholds that stand: without those that left, and with the one that came where it exceeds one of them.
 fn moved_flags(state: &[u8], q: usize, moved: Move, comes: bool) -> [u32; 9]
     requires { ⌜ (length (now state) ≡ stateLength) × (q < numbers) × (moved .gone < slots) ⌝ }
@@ -309,7 +321,8 @@ fn moved_flags(state: &[u8], q: usize, moved: Move, comes: bool) -> [u32; 9]
 {
     let newest = moved.newest;
     let flags = memory::load9(state, layout::RECORDS + layout::RECORD * q + layout::FLAGS);
-    let rest = candidates::without(flags, moved.gone, moved.departed);
+    let later = candidates::without(flags, moved.gone, moved.departed);
+    let rest = without_one(later, moved.cancelled);
     if newest < layout::SLOTS {
         return candidates::with_flag(rest, newest, comes);
     }
@@ -344,29 +357,25 @@ fn keep_list(state: &mut [u8], q: usize, flags: [u32; 9])
     );
 }
 
-// The list without the messages of `departed` slots from slot `gone` on, where one of them may change it.
-fn without_gone(
-    state: &[u8],
-    gone: usize,
-    departed: usize,
-    went: u32,
-    least: u32,
-    list: Ranked,
-) -> Ranked
-    requires { ⌜ (length (now state) ≡ stateLength) × (gone < slots) × (list .count ≤ mostListed) ⌝ }
-    ensures { λ r. ⌜ WithoutGone (words (now (state .entry))) gone departed went least list r ⌝ }
+// The list without the messages that leave, where one of them may change it.
+fn without_gone(state: &[u8], moved: Move, went: u32, least: u32, list: Ranked) -> Ranked
+    requires { ⌜ (length (now state) ≡ stateLength) × (moved .gone < slots) × (list .count ≤ mostListed) ⌝ }
+    ensures { λ r. ⌜ WithoutGone (words (now (state .entry))) moved went least list r ⌝ }
 {
     let mut rest = list;
     if went < least {
         return rest;
     }
-    let mut j = gone;
-    let mut left = departed;
+    let mut j = moved.gone;
+    let mut left = moved.departed;
     while 0 < left {
         let serial = window::serial_in(state, j);
         rest = rank::removed(rest, serial);
         j = window::following(j);
         left -= 1;
+    }
+    if moved.cancelled < layout::SLOTS {
+        return rank::removed(rest, moved.serial);
     }
     rest
 }
@@ -460,7 +469,7 @@ fn change(state: &mut [u8], q: usize, moved: Move, touch: Touch, least: u32, fla
     let thresholds = load_thresholds(state, q);
     let list = load_list(state, q);
     let k = query.k;
-    let rest = without_gone(state, moved.gone, moved.departed, touch.went, least, list);
+    let rest = without_gone(state, moved, touch.went, least, list);
     let next = with_newest(state, moved.newest, touch.came, k, least, rest);
     if both(list.count == k, next.count != k) {
         settle(state, q, first, count, flags, query, thresholds);

@@ -11,14 +11,11 @@ use lib.Seq.{getD-set-other}
 use lib.Dec.{eqb}
 use borrow.Author.Tests.{eqb-true, eqb-false, eq-eqb, ne-eqb}
 use Rattle.paper.specs.Frame.{mostListed}
-use Rattle.paper.specs.Window.{Message}
-use Rattle.paper.specs.Rank.{Line, Entry, lines, serials}
-use Rattle.paper.specs.Log.{hasSerial}
+use Rattle.paper.specs.Rank.{Line, Entry, line, lines}
 use Rattle.paper.specs.Sort.{select}
 use Rattle.paper.proofs.Tests.{by-bool}
-use Rattle.paper.proofs.SortLaws.{select-append, select-all}
-use Rattle.paper.proofs.LeadLaws.{entryStays, lineStays, lines-gone}
-use Rattle.rank.specs.Listing.{listed, ZeroFrom, without, withouts}
+use Rattle.paper.proofs.SortLaws.{select-append, select-all, select-map}
+use Rattle.rank.specs.Listing.{listed, ZeroFrom, without, withouts, hasNumber}
 use Rattle.rank.proofs.LineLaws.{new}
 
 -- ---- one place more
@@ -106,7 +103,7 @@ module _ {serial : ℕ} {a b : List ℕ} {i n : ℕ} {s c : List ℕ} (p : Passe
 -- ---- one serial after the other
 
 -- a test made after another is both at once
-select-both : {A : Type 0} (f g both : A → Bool) → ((x : A) → both x ≡ (f x && g x)) → (l : List A) → select g (select f l) ≡ select both l
+pub select-both : {A : Type 0} (f g both : A → Bool) → ((x : A) → both x ≡ (f x && g x)) → (l : List A) → select g (select f l) ≡ select both l
 unfolding select
 select-both f g both h [] = refl
 select-both f g both h (x ∷ xs) =
@@ -114,18 +111,18 @@ select-both f g both h (x ∷ xs) =
     let e = h x in
     by-bool (f x) (λ p. by-bool (g x) (λ u. rw (p, u, e, p, u, ih)) (λ u. rw (p, u, e, p, u, ih))) (λ p. rw (p, e, p) ih)
 
-stays-both : (m : Message) (gone : List Message) (x : Line) → lineStays (m ∷ gone) x ≡ (not (eqb (x .serial) (m .serial)) && lineStays gone x)
-unfolding hasSerial
-stays-both m gone x =
-    by-bool (eqb (x .serial) (m .serial))
-    (λ p. rw (p, eq-eqb (m .serial) (x .serial) (sym (eqb-true (x .serial) (m .serial) p))))
-    (λ p. rw (p, ne-eqb (m .serial) (x .serial) (λ e. eqb-false (x .serial) (m .serial) p (sym e))))
+stays-both : (s : ℕ) (ss : List ℕ) (x : Line) → not (hasNumber (x .serial) (s ∷ ss)) ≡ (not (eqb (x .serial) s) && not (hasNumber (x .serial) ss))
+unfolding hasNumber
+stays-both s ss x =
+    by-bool (eqb (x .serial) s)
+    (λ p. rw (p, eq-eqb s (x .serial) (sym (eqb-true (x .serial) s p))))
+    (λ p. rw (p, ne-eqb s (x .serial) (λ e. eqb-false (x .serial) s p (sym e))))
 
--- the serials of messages taken out of lines
-pub without-all : (gone : List Message) (l : List Line) → withouts (serials gone) l ≡ select (lineStays gone) l
-unfolding withouts hasSerial
-without-all [] l = sym (select-all (lineStays []) l (λ x m. refl))
-without-all (m ∷ gone) l = without-all gone (without (m .serial) l) ∙ select-both _ _ (lineStays (m ∷ gone)) (stays-both m gone) l
+-- some serials taken out of lines
+without-all : (ss : List ℕ) (l : List Line) → withouts ss l ≡ select (λ x. not (hasNumber (x .serial) ss)) l
+unfolding withouts hasNumber
+without-all [] l = sym (select-all _ l (λ x m. refl))
+without-all (s ∷ ss) l = without-all ss (without s l) ∙ select-both _ _ (λ (x : Line). not (hasNumber (x .serial) (s ∷ ss))) (stays-both s ss) l
 
-pub without-lines : (gone : List Message) (es : List Entry) → withouts (serials gone) (lines es) ≡ lines (select (entryStays gone) es)
-without-lines gone es = without-all gone (lines es) ∙ sym (lines-gone gone es)
+pub without-lines : (ss : List ℕ) (es : List Entry) → withouts ss (lines es) ≡ lines (select (λ e. not (hasNumber (e .of .serial) ss)) es)
+without-lines ss es = without-all ss (lines es) ∙ select-map line (λ (x : Line). not (hasNumber (x .serial) ss)) es

@@ -1,25 +1,31 @@
 -- Laws of slots: what a slot and a window read of the memory, and a message written into a slot. Assumes nothing.
-use Prim.Native.Nat.{ℕ, zero, suc, _+_, _^_, _≤_, _<_}
-use native.Mathlib.Nat.{not-suc-le-zero, min-le-right, min-eq-left}
+use Prim.Native.Nat.{ℕ, zero, suc, _+_, _*_, _%_, _^_, _≤_, _<_}
+use native.Mathlib.Nat.{not-suc-le-zero, min-le-left, min-le-right, min-eq-left}
 use native.Mathlib.Omega.{arith}
-use mathlib.Core.Path.{_≡_, refl, ap, ap₂, _∙_}
+use mathlib.Core.Path.{_≡_, refl, sym, ap, ap₂, _∙_}
+use mathlib.Core.Bool.{true, false}
 use mathlib.Core.Logic.{_⊎_, inl, inr, ⊎-elim}
-use mathlib.Core.List.{List, [], _∷_, map}
-use lib.ListN.{length, getD, set, length-set, length-take, length-drop}
+use mathlib.Core.List.{List, [], _∷_, _++_, map}
+use lib.ListN.{length, getD, set, take, drop, length-set, length-take, length-drop}
 use lib.Seq.{getD-take, getD-drop, getD-set-same, getD-set-other}
+use lib.Dec.{ltb}
+use borrow.Author.Tests.{ltb-false}
 use Rattle.paper.specs.Frame.{mostPairs}
 use Rattle.paper.specs.Impact.{impact, squares}
+use Rattle.paper.specs.Order.{In}
+use Rattle.paper.specs.Sort.{select}
 use Rattle.paper.specs.Window.{Message}
 use Rattle.paper.specs.Write.{side-by-side}
 use Rattle.paper.specs.Layout.{slots, serialOffset, cellCountOffset, slotWords, slotAt, cellsAt, recordAt, stateLength}
+use Rattle.paper.proofs.SortLaws.{in-select, select-in, select-map, select-append}
 use Rattle.memory.specs.Words.{words, putWord}
 use Rattle.memory.specs.Keeps.{Keeps, Stored}
 use Rattle.memory.proofs.WordLaws.{words-length, put-word, put-length}
 use Rattle.memory.proofs.KeepsLaws.{keeps-trans, keeps-wider, keeps-set, keeps-at, keeps-part}
 use Rattle.impact.specs.Cell.{packed, cellOf, cellsOf, squaresOf}
 use Rattle.impact.proofs.CellLaws.{squares-side}
-use Rattle.window.specs.Slot.{slot, sizeAt, stored, ring, window}
-use Rattle.window.specs.Cursor.{Written}
+use Rattle.window.specs.Slot.{Slot, slot, sizeAt, stored, silenced, ring, window, live}
+use Rattle.window.specs.Cursor.{Written, Cancelled}
 use Rattle.window.proofs.RingLaws.{ring-length, ring-below}
 
 -- ---- the cells of a slot
@@ -35,6 +41,37 @@ module _ (s : List ℕ) (j : ℕ) (long : length s ≡ stateLength) (below : j <
   pub slot-cell : (i : ℕ) → i < sizeAt (words s) j → getD (slot (words s) j .cells) i 0 ≡ getD (words s) (cellsAt j + i) 0
   unfolding slot
   slot-cell i h = rw (getD-take, getD-drop)
+
+-- ---- slots that aren't live
+
+pub silent-cells : (w : List ℕ) (j : ℕ) → ltb 0 (slot w j .size) ≡ false → slot w j .cells ≡ []
+unfolding slot
+silent-cells w j e =
+    let size : ℕ = getD w (slotAt j + cellCountOffset) 0 in
+    let none : sizeAt w j ≡ 0 = omega (arith, ltb-false 0 size e, min-le-left size mostPairs) in
+    ap (λ (n : ℕ). take n (drop (cellsAt j) w)) none
+
+-- which of some slots are live, and what is in them
+pub live-in : (w js : List ℕ) (j : ℕ) → In j (live w js) → In j js × (ltb 0 (slot w j .size) ≡ true)
+unfolding live
+live-in w js j m = select-in (λ j. ltb 0 (slot w j .size)) j js m
+
+pub in-live : (w js : List ℕ) (j : ℕ) → In j js → ltb 0 (slot w j .size) ≡ true → In j (live w js)
+unfolding live
+in-live w js j m e = in-select (λ j. ltb 0 (slot w j .size)) j js m e
+
+pub live-append : (w xs ys : List ℕ) → live w (xs ++ ys) ≡ live w xs ++ live w ys
+unfolding live
+live-append w xs ys = select-append (λ j. ltb 0 (slot w j .size)) xs ys
+
+pub live-same : (w w′ js : List ℕ) → ((j : ℕ) → In j js → slot w′ j ≡ slot w j) → live w′ js ≡ live w js
+unfolding live select
+live-same w w′ [] same = refl
+live-same w w′ (j ∷ js) same = rw (same j (inl refl), live-same w w′ js (λ i m. same i (inr m)))
+
+pub live-slots : (w js : List ℕ) → map (slot w) (live w js) ≡ select (λ x. ltb 0 (x .size)) (map (slot w) js)
+unfolding live
+live-slots w js = sym (select-map (slot w) (λ (x : Slot). ltb 0 (x .size)) js)
 
 -- ---- what a slot and a window read
 
@@ -159,3 +196,47 @@ message-written j x m s₀ s₁ s₂ s₃ {w′} long low few all ht hs e₁ e�
       e₁,
       put-word s₀ (slotAt j) (x .time) (omega arith) ht,
     ) at cells)
+
+-- ---- a message cancelled
+
+-- in words: the serial, then the number of cells
+slot-silenced : (j x : ℕ) (w : List ℕ) → slotAt j + slotWords ≤ length w → x ≡ slot w j .serial % 1048576 + 1048576 * sizeAt w j
+    → Cancelled j w (set (set w (slotAt j + serialOffset) x) (slotAt j + cellCountOffset) 0)
+unfolding slot silenced
+slot-silenced j x w long is = record {
+  keeps = keeps-trans (one w (slotAt j + serialOffset) x (omega arith) (omega arith)) (one w₁ (slotAt j + cellCountOffset) 0 (omega arith) (omega arith));
+  silent = rw (time-is, serial-is, size-is, is);
+}
+  where
+    w₁ : List ℕ
+    w₁ = set w (slotAt j + serialOffset) x
+
+    one : (v : List ℕ) (i y : ℕ) → slotAt j + serialOffset ≤ i → i < cellsAt j → Keeps (slotAt j + serialOffset) (cellsAt j) v (set v i y)
+    one v i y l h = keeps-wider l h (keeps-set v i y)
+
+    time-is : getD (set w₁ (slotAt j + cellCountOffset) 0) (slotAt j) 0 ≡ getD w (slotAt j) 0
+    time-is =
+        getD-set-other w₁ (slotAt j + cellCountOffset) (slotAt j) 0 0 (omega arith)
+        ∙ getD-set-other w (slotAt j + serialOffset) (slotAt j) x 0 (omega arith)
+
+    serial-is : getD (set w₁ (slotAt j + cellCountOffset) 0) (slotAt j + serialOffset) 0 ≡ x
+    serial-is =
+        getD-set-other w₁ (slotAt j + cellCountOffset) (slotAt j + serialOffset) 0 0 (omega arith)
+        ∙ getD-set-same w (slotAt j + serialOffset) x 0 (omega arith)
+
+    size-is : getD (set w₁ (slotAt j + cellCountOffset) 0) (slotAt j + cellCountOffset) 0 ≡ 0
+    size-is = getD-set-same w₁ (slotAt j + cellCountOffset) 0 0 (let l = length-set w (slotAt j + serialOffset) x in omega arith)
+
+-- as the words are put one after the other
+pub slot-cancelled : (j : ℕ) (s₀ s₁ s₂ : List ℕ) {x : ℕ} → length s₀ ≡ stateLength → j < slots → x ≡ slot (words s₀) j .serial % 1048576 + 1048576 * sizeAt (words s₀) j
+    → s₁ ≡ putWord s₀ (slotAt j + serialOffset) x → s₂ ≡ putWord s₁ (slotAt j + cellCountOffset) 0 → Cancelled j (words s₀) (words s₂)
+slot-cancelled j s₀ s₁ s₂ {x} long low is e₁ e₂ =
+    let l₁ : length s₁ ≡ length s₀ = ap length e₁ ∙ put-length s₀ (slotAt j + serialOffset) x in
+    let l = words-length s₀ in
+    let few = min-le-right (getD (words s₀) (slotAt j + cellCountOffset) 0) mostPairs in
+    rw (
+      e₂,
+      put-word s₁ (slotAt j + cellCountOffset) 0 (omega arith) (omega arith),
+      e₁,
+      put-word s₀ (slotAt j + serialOffset) x (omega arith) (omega arith),
+    ) (slot-silenced j x (words s₀) (omega arith) is)

@@ -7,12 +7,15 @@ use mathlib.Core.Bool.{Bool, true, false, cond}
 use mathlib.Core.List.{List, [], _∷_, map}
 use lib.ListN.{length, getD, set, drop, replicate, getD-replicate, drop-of-length-le}
 use lib.Seq.{getD-set-same, getD-set-other, drop-cons}
-use lib.Dec.{eqb}
+use lib.Dec.{eqb, ltb}
 use borrow.Author.Tests.{eqb-true, eqb-false, ne-eqb}
+use Rattle.paper.specs.Sort.{select}
+use Rattle.paper.proofs.Tests.{by-bool}
 use Rattle.impact.specs.Cell.{cellTerm, cellImpact, lookup, RisingCells}
-use Rattle.window.specs.Slot.{Slot, slot, next, window}
+use Rattle.window.specs.Slot.{Slot, slot, next, window, live}
 use Rattle.window.specs.Table.{termLimit, highest, greatest, entryOf, Raised, RaisedBy, TableOf}
 use Rattle.window.proofs.RingLaws.{ring-step, ring-none}
+use Rattle.window.proofs.SlotLaws.{silent-cells}
 
 -- What is left to raise the table by (`rest` gives what each term has there) makes it the first one raised by all of it.
 pub record Raising (all : ℕ → ℕ) (first : List ℕ) (rest : ℕ → ℕ) (table : List ℕ) : Type 0 where
@@ -78,6 +81,14 @@ module _ (w : List ℕ) (o n : ℕ) {first table : List ℕ} (j left : ℕ) wher
 -- from a table of zeros on
 pub table-of : {xs : List Slot} {table : List ℕ} → RaisedBy xs (replicate termLimit 0) table → TableOf xs table
 table-of {xs} raised = record { is = λ t h. raised .is t h ∙ ap (λ (n : ℕ). max n (greatest t xs)) (getD-replicate termLimit t 0 0 h) ∙ zero-max (greatest t xs) }
+
+-- slots that aren't live add nothing
+pub greatest-live : (w js : List ℕ) (t : ℕ) → greatest t (map (slot w) (live w js)) ≡ greatest t (map (slot w) js)
+unfolding live select greatest highest
+greatest-live w [] t = refl
+greatest-live w (j ∷ js) t =
+    let ih = greatest-live w js t in
+    by-bool (ltb 0 (slot w j .size)) (λ e. rw (e, ih)) (λ e. rw (e, silent-cells w j e) (ih ∙ sym (zero-max (greatest t (map (slot w) js)))))
 
 -- ---- of cells that rise only one has a term
 

@@ -4,9 +4,9 @@ use mathlib.Core.Path.{_≡_}
 use mathlib.Core.List.{List}
 use lib.ListN.{getD}
 use Rattle.paper.specs.Window.{Message}
-use Rattle.paper.specs.Layout.{clockAt, oldestAt, countAt, headerWords, slots, slotWords, slotAt}
+use Rattle.paper.specs.Layout.{clockAt, oldestAt, countAt, headerWords, slots, slotWords, slotAt, serialOffset, cellsAt}
 use Rattle.memory.specs.Keeps.{Keeps}
-use Rattle.window.specs.Slot.{slot, stored, window, dropPast}
+use Rattle.window.specs.Slot.{slot, stored, silenced, window, dropPast}
 
 -- what is read of the header: itself where it is in range, and in range whatever memory holds
 pub record Loaded (w : List ℕ) (clock oldest count : ℕ) : Type 0 where
@@ -45,3 +45,8 @@ pub record Roomy (N clock o n clock′ o′ n′ : ℕ) : Type 0 where
 pub record Written (j : ℕ) (m : Message) (w w′ : List ℕ) : Type 0 where
   pub keeps : Keeps (slotAt j) (slotAt j + slotWords) w w′
   pub holds : slot w′ j ≡ stored m
+
+-- a message cancelled in its slot: its cells stand where they stood
+pub record Cancelled (j : ℕ) (w w′ : List ℕ) : Type 0 where
+  pub keeps : Keeps (slotAt j + serialOffset) (cellsAt j) w w′
+  pub silent : slot w′ j ≡ silenced (slot w j)

@@ -1,10 +1,11 @@
 -- What a slot of the ring holds, and the slots that are in the window. `w` is the state memory in words. Assumes nothing.
-use Prim.Native.Nat.{ℕ, zero, suc, _+_, _%_, min}
+use Prim.Native.Nat.{ℕ, zero, suc, _+_, _*_, _%_, _^_, min}
 use mathlib.Core.Bool.{Bool, false, cond, _||_}
 use mathlib.Core.List.{List, [], _∷_, map}
 use lib.ListN.{length, getD, take, drop}
-use lib.Dec.{eqb}
-use Rattle.paper.specs.Frame.{mostPairs}
+use lib.Dec.{eqb, ltb}
+use Rattle.paper.specs.Frame.{mostPairs, serialWidth}
+use Rattle.paper.specs.Sort.{select}
 use Rattle.paper.specs.Window.{Message, past}
 use Rattle.paper.specs.Layout.{slots, serialOffset, cellCountOffset, slotAt, cellsAt}
 use Rattle.impact.specs.Cell.{cellsOf}
@@ -32,6 +33,21 @@ slot w j =
 unfoldable pub stored : Message → Slot
 stored m = record { time = m .time; serial = m .serial; size = length (m .pairs); cells = cellsOf (m .pairs) }
 
+-- A slot once its message is cancelled: it has no cells, and its serial is none that a frame can say. How many cells it had stands above the bits of
+-- the serial.
+unfoldable pub silenced : Slot → Slot
+silenced x =
+    record {
+      time = x .time;
+      serial = x .serial % 2 ^ serialWidth + 2 ^ serialWidth * min (x .size) mostPairs;
+      size = 0;
+      cells = [];
+    }
+
+-- the slot of a message that fills a place, cancelled or not
+abbrev pub held : Message → Slot
+held m = cond (m .cancelled) (silenced (stored m)) (stored m)
+
 abbrev pub next : ℕ → ℕ
 next j = (j + 1) % slots
 
@@ -43,10 +59,19 @@ ring o (suc n) = o ∷ ring (next o) n
 abbrev pub window : List ℕ → ℕ → ℕ → List Slot
 window w o n = map (slot w) (ring o n)
 
+-- of some slots, those whose messages are in force: a cancelled message has no cells
+unfoldable pub live : List ℕ → List ℕ → List ℕ
+live w js = select (λ j. ltb 0 (slot w j .size)) js
+
 -- the slots from the first that isn't past on
 unfoldable pub dropPast : ℕ → ℕ → List Slot → List Slot
 dropPast T clock [] = []
 dropPast T clock (x ∷ xs) = cond (past T clock (x .time)) (dropPast T clock xs) (x ∷ xs)
+
+-- the first of some slots whose message has the serial; past the last slot where none has
+unfoldable pub seek : List ℕ → ℕ → List ℕ → ℕ
+seek w s [] = slots
+seek w s (j ∷ js) = cond (eqb (slot w j .serial) s) j (seek w s js)
 
 unfoldable pub holdsSerial : ℕ → List Slot → Bool
 holdsSerial s [] = false

@@ -1,7 +1,7 @@
-// The window: a ring of message slots in the state memory, and the cursor that says which of them are in force.
+// The window: a ring of message slots in the state memory, and the cursor that says which of them fill a place.
 ghost use mathlib.Core.Path.{_≡_};
 ghost use Prim.Native.Nat.{ℕ, _+_, _*_, _-_, _%_, _^_, _<_, _≤_, max};
-ghost use mathlib.Core.Bool.{_||_};
+ghost use mathlib.Core.Bool.{false, _||_};
 ghost use lib.ListN.{length, getD};
 ghost use Rattle.paper.specs.Frame.{termWidth, countWidth, mostPairs, mostTerms};
 ghost use Rattle.paper.specs.Window.{past};
@@ -10,10 +10,10 @@ ghost use Rattle.paper.specs.Layout.{slots, stateWords, stateLength};
 ghost use Rattle.memory.specs.Words.{words};
 ghost use Rattle.memory.specs.Keeps.{Stored};
 ghost use Rattle.impact.specs.Cell.{cellsOf, lookup};
-ghost use Rattle.window.specs.Slot.{slot, sizeAt, window, next, holdsSerial};
+ghost use Rattle.window.specs.Slot.{slot, sizeAt, ring, window, live, next, holdsSerial, seek};
 ghost use Rattle.window.specs.Table.{termLimit, Raised, RaisedBy};
 ghost use Rattle.window.specs.Rows.{rowWidth, touches, LookedAt};
-ghost use Rattle.window.specs.Cursor.{Loaded, PutCursor, Advanced, Roomy, Written};
+ghost use Rattle.window.specs.Cursor.{Loaded, PutCursor, Advanced, Roomy, Written, Cancelled};
 use impact::Impact;
 use paper::MOST_PAIRS;
 use paper::layout;
@@ -259,6 +259,53 @@ pub fn has_serial(state: &[u8], first: usize, count: usize, serial: u32) -> bool
     either(late, serial_among(state, 0, end - layout::SLOTS, serial))
 }
 
+// The slot of the first of the `count` messages from slot `first` on that has the serial; past the last slot where none has.
+pub fn slot_of(state: &[u8], first: usize, count: usize, serial: u32) -> usize
+    requires { ⌜ (length (now state) ≡ stateLength) × (first < slots) ⌝ }
+    ensures { λ r. ⌜ r ≡ seek (words (now (state .entry))) serial (ring first count) ⌝ }
+{
+    let mut j = first;
+    let mut left = count;
+    while 0 < left {
+        if serial_in(state, j) == serial {
+            return j;
+        }
+        j = following(j);
+        left -= 1;
+    }
+    layout::SLOTS
+}
+
+// How many of the `count` messages from slot `first` on are in force.
+pub fn in_force(state: &[u8], first: usize, count: usize) -> usize
+    requires { ⌜ (length (now state) ≡ stateLength) × (first < slots) ⌝ }
+    ensures { λ r. ⌜ (r ≡ length (live (words (now (state .entry))) (ring first count))) × (r ≤ count) ⌝ }
+{
+    let mut found: usize = 0;
+    let mut j = first;
+    let mut left = count;
+    while 0 < left {
+        if 0 < size_in(state, j) {
+            found += 1;
+        }
+        j = following(j);
+        left -= 1;
+    }
+    found
+}
+
+// The message in slot j is cancelled: nobody sees cells of it any more, and no frame can say its serial. How many cells it had is kept beside the serial.
+pub fn cancel(state: &mut [u8], j: usize)
+    requires { ⌜ (length (now state) ≡ stateLength) × (j < slots) ⌝ }
+    ensures { λ _. ⌜ Cancelled j (words (now (state .entry))) (words (now (state .exit))) ⌝ }
+{
+    let at = layout::RING + layout::SLOT * j;
+    let serial = serial_in(state, j) % paper::SERIALS;
+    let size = size_in(state, j) as u32;
+    memory::put(state, at + layout::SERIAL, serial + paper::SERIALS * size);
+    memory::put(state, at + layout::CELL_COUNT, 0);
+}
+
 // The message's cells, from word `at` on.
 fn put_cells(
     state: &mut [u8],
@@ -295,7 +342,7 @@ pub fn put_message(
 )
     requires { ⌜ (length (now state) ≡ stateLength) × (j < slots) × (m ≤ mostPairs) ⌝ }
     requires { ⌜ ((i : ℕ) → i < m → (getD terms i 0 < 2 ^ termWidth) × (getD counts i 0 < 2 ^ countWidth)) ⌝ }
-    ensures { λ _. ⌜ Written j (record { time = time; serial = serial; pairs = side-by-side m terms counts }) (words (now (state .entry))) (words (now (state .exit))) ⌝ }
+    ensures { λ _. ⌜ Written j (record { time = time; serial = serial; pairs = side-by-side m terms counts; cancelled = false }) (words (now (state .entry))) (words (now (state .exit))) ⌝ }
 {
     let at = layout::RING + layout::SLOT * j;
     memory::put(state, at, time);

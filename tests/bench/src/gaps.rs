@@ -134,8 +134,7 @@ impl Kept {
         let last = self.last();
         let least = self.entries.last().map_or(1, |e| e.score);
         if least <= m.went {
-            let first = v.window.first();
-            self.entries.retain(|e| first <= e.place);
+            self.entries.retain(|e| v.window.keeps(e.place));
         }
         // a full list's entries needn't be all its candidates, so what comes behind the last entry may come behind others too
         let fits = last.is_none() || self.entries.last().is_some_and(|e| e.score <= m.came);

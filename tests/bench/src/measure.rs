@@ -1,4 +1,4 @@
-//! The methods run in turn over the same frames, and their times beside the proved engine's.
+//! The methods run in turn over the same frames, and their times beside the proved engine's; and the proved engine in turn over two sorts of frames.
 
 use crate::eager::Eager;
 use crate::full::Full;
@@ -95,6 +95,17 @@ pub struct Row {
     pub ratios: Vec<f64>,
     /// The share of frames that reach no query.
     pub idle: f64,
+}
+
+/// The proved engine's time for the second passages over that for the first, which it runs in turn.
+pub fn beside(first: &[&Passage], second: &[&Passage]) -> f64 {
+    let mut bests = [Best::default(), Best::default()];
+    for _ in 0..ROUNDS {
+        for (best, passages) in bests.iter_mut().zip([first, second]) {
+            best.of(&run::<Proved>(passages));
+        }
+    }
+    bests[1].seconds() / bests[0].seconds()
 }
 
 /// Passages of one setting, for as many engines of each method.

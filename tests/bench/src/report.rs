@@ -1,12 +1,15 @@
 //! The tables of a run, and the plot.
 
-use crate::measure::{measured, Row, RIVALS};
-use crate::workload::{Passage, Setting, MESSAGES, SEED, SHARED};
+use crate::measure::{beside, measured, Row, RIVALS};
+use crate::workload::{Departure, Passage, Setting, MESSAGES, SEED, SHARED};
 use crate::{plot, reading};
 
 /// The classroom: so many engines on one machine, each taking in so many messages.
 const BOARDS: u64 = 40;
 const BOARD_MESSAGES: usize = 400;
+
+/// How many messages depart from each of the full windows of as many engines.
+const DEPARTURES: usize = 50;
 
 /// The rivals of the first table end here, and those of the others, without the full re-rank, start here.
 const FIRST: usize = 6;
@@ -69,6 +72,22 @@ fn classroom() {
     }
 }
 
+/// Departures from full windows, by ticks and by cancellations: the proved engine's time for the second over that for the first; then the rivals over
+/// the proved engine, for cancellations.
+fn cancellations() {
+    head(&["shared terms", "queries", "a cancellation over a tick"], QUICK..RIVALS.len(), &[]);
+    for (terms, shared) in SHARED {
+        for queries in [1, 32] {
+            let setting = Setting { capacity: 256, queries, terms };
+            let departing = |by| (0..BOARDS).map(|board| Passage::departing(setting, DEPARTURES, by, SEED + board)).collect::<Vec<_>>();
+            let (ticks, cancels) = (departing(Departure::Tick), departing(Departure::Cancel));
+            let (ticks, cancels) = (ticks.iter().collect::<Vec<_>>(), cancels.iter().collect::<Vec<_>>());
+            let ratios = [vec![beside(&ticks, &cancels)], measured(&cancels, &RIVALS[QUICK..]).ratios].concat();
+            line(&[vec![shared.into(), queries.to_string()], two_digits(&ratios)].concat());
+        }
+    }
+}
+
 /// Prints all tables, and writes the plot to the path.
 pub fn print(path: &str) {
     println!("Ratios: the rival's time over the proved engine's for the same frames, so ABOVE 1 THE PROVED ENGINE IS FASTER.\n");
@@ -77,6 +96,8 @@ pub fn print(path: &str) {
     largest(&rows);
     println!("\nThe classroom: {BOARDS} engines, few shared terms, N 256, a message to each in turn:\n");
     classroom();
+    println!("\nDepartures from full windows: {BOARDS} engines, N 256, {DEPARTURES} messages from each:\n");
+    cancellations();
     println!("\nReading a frame alone; the ratio is the plain reader's time over the proved one's:\n");
     reading::print();
     std::fs::write(path, plot::svg(&rows)).unwrap_or_else(|e| panic!("{path}: {e}"));

@@ -40,8 +40,7 @@ impl Kept {
         let last = self.last();
         let least = last.unwrap_or(1);
         if least <= m.went {
-            let first = w.first();
-            self.list.retain(|e| first <= e.place);
+            self.list.retain(|e| w.keeps(e.place));
         }
         if let Some(newest) = w.newest().filter(|_| least <= m.came) {
             keep(&mut self.list, self.query.k, newest.entry(m.came));

@@ -1,4 +1,5 @@
-//! The passages that are measured: queries first, then messages a second apart, each pushing the oldest out once N are there.
+//! The passages that are measured: queries first, then messages a second apart, each pushing the oldest out once N are there; or, once N are there,
+//! departures alone.
 
 use fennelrake_tests::random::Random;
 use passage::Frame;
@@ -18,6 +19,15 @@ pub struct Setting {
     pub terms: u64,
 }
 
+/// How messages depart from a full window, one by each frame.
+#[derive(Clone, Copy)]
+pub enum Departure {
+    /// A tick a second later, in which the oldest is past.
+    Tick,
+    /// A cancellation of any that is in force.
+    Cancel,
+}
+
 pub struct Passage {
     pub setting: Setting,
     pub life: u32,
@@ -35,17 +45,39 @@ fn rising(r: &mut Random, n: u64, terms: u64, most: u64) -> Vec<(u32, u32)> {
 impl Passage {
     /// With so many messages after those that fill the window.
     pub fn new(setting: Setting, messages: usize, seed: u64) -> Self {
+        Passage { setting, life: 65535, frames: Self::filling(setting, messages, &mut Random::new(seed)) }
+    }
+
+    /// With so many departures after the messages that fill the window, which for a seed are the same.
+    pub fn departing(setting: Setting, departures: usize, by: Departure, seed: u64) -> Self {
         let mut r = Random::new(seed);
+        let mut frames = Self::filling(setting, 0, &mut r);
+        let mut serials: Vec<u32> = (0..setting.capacity as u32).collect();
+        for i in 0..departures {
+            let time = (setting.capacity + 1 + i) as u32;
+            frames.push(match by {
+                Departure::Tick => Frame::Tick { time }.bytes(),
+                Departure::Cancel => Frame::Cancel { time, serial: serials.swap_remove(r.below(serials.len() as u64) as usize) }.bytes(),
+            });
+        }
+        let life = match by {
+            Departure::Tick => setting.capacity as u32 - 1,
+            Departure::Cancel => 65535,
+        };
+        Passage { setting, life, frames }
+    }
+
+    fn filling(setting: Setting, more: usize, r: &mut Random) -> Vec<Vec<u8>> {
         let mut frames = Vec::new();
         for number in 0..setting.queries {
             let (k, n) = (1 + r.below(8) as usize, 1 + r.below(5));
-            frames.push(Frame::Register { time: 0, number, k, terms: rising(&mut r, n, setting.terms, 15) }.bytes());
+            frames.push(Frame::Register { time: 0, number, k, terms: rising(r, n, setting.terms, 15) }.bytes());
         }
-        for i in 0..(setting.capacity + messages) as u32 {
+        for i in 0..(setting.capacity + more) as u32 {
             let n = 4 + r.below(9);
-            frames.push(Frame::Message { time: i + 1, serial: i, pairs: rising(&mut r, n, setting.terms, 9) }.bytes());
+            frames.push(Frame::Message { time: i + 1, serial: i, pairs: rising(r, n, setting.terms, 9) }.bytes());
         }
-        Passage { setting, life: 65535, frames }
+        frames
     }
 
     /// The frames that fill the window, and those after them, which are measured.

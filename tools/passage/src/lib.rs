@@ -8,6 +8,7 @@ pub enum Frame {
     Tick { time: u32 },
     Register { time: u32, number: usize, k: usize, terms: Vec<(u32, u32)> },
     Drop { time: u32, number: usize },
+    Cancel { time: u32, serial: u32 },
 }
 
 struct Bits<'a> {
@@ -43,7 +44,11 @@ fn packed(bits: &[bool]) -> Vec<u8> {
 impl Frame {
     pub fn time(&self) -> u32 {
         match self {
-            Frame::Message { time, .. } | Frame::Tick { time } | Frame::Register { time, .. } | Frame::Drop { time, .. } => *time,
+            Frame::Message { time, .. }
+            | Frame::Tick { time }
+            | Frame::Register { time, .. }
+            | Frame::Drop { time, .. }
+            | Frame::Cancel { time, .. } => *time,
         }
     }
 
@@ -77,6 +82,10 @@ impl Frame {
             Frame::Drop { time, number } => {
                 head(&mut b, 4, *time);
                 push(&mut b, 5, *number as u64);
+            }
+            Frame::Cancel { time, serial } => {
+                head(&mut b, 5, *time);
+                push(&mut b, 20, *serial as u64);
             }
         }
         packed(&b)
@@ -129,6 +138,13 @@ impl Frame {
                 }
                 let number = b.take(5) as usize;
                 pairs(&mut b, 0, 0).map(|_| Frame::Drop { time, number })
+            }
+            5 => {
+                if b.left() < 20 {
+                    return Err(3);
+                }
+                let serial = b.take(20);
+                pairs(&mut b, 0, 0).map(|_| Frame::Cancel { time, serial })
             }
             _ => Err(2),
         }

@@ -6,6 +6,7 @@
 //! message 20 serial 2 5:1 9:4       time, serial, term:count ..
 //! tick 120
 //! drop 130 query 0
+//! cancel 140 serial 2               time, and the serial of a message in force
 //! bytes 20 00 00 07 81              a frame of any bytes, in hexadecimal
 //! ```
 //!
@@ -80,6 +81,11 @@ fn pairs(words: &mut std::slice::Iter<&str>, most: usize, name: &str, top: u32) 
     Ok(ps)
 }
 
+fn serial(words: &mut std::slice::Iter<&str>) -> Result<u32, String> {
+    keyword(words, "serial")?;
+    Ok(number(words, "the serial", 0, 1_048_575)? as u32)
+}
+
 fn byte(word: &str) -> Result<u8, String> {
     if word.len() == 2 && word.bytes().all(|b| b.is_ascii_hexdigit()) {
         Ok(u8::from_str_radix(word, 16).unwrap())
@@ -94,14 +100,13 @@ fn frame(words: &[&str]) -> Result<Vec<u8>, String> {
     if kind == "bytes" {
         return w.map(|b| byte(b)).collect();
     }
-    if !["message", "tick", "register", "drop"].contains(&kind) {
-        return Err(format!("{} is no kind of frame: message, tick, register, drop or bytes", shown(kind)));
+    if !["message", "tick", "register", "drop", "cancel"].contains(&kind) {
+        return Err(format!("{} is no kind of frame: message, tick, register, drop, cancel or bytes", shown(kind)));
     }
     let time = number(&mut w, "the time", 0, u32::MAX as u64)? as u32;
     let f = match kind {
         "message" => {
-            keyword(&mut w, "serial")?;
-            let serial = number(&mut w, "the serial", 0, 1_048_575)? as u32;
+            let serial = serial(&mut w)?;
             Frame::Message { time, serial, pairs: pairs(&mut w, 16, "count", 255)? }
         }
         "tick" => Frame::Tick { time },
@@ -112,6 +117,7 @@ fn frame(words: &[&str]) -> Result<Vec<u8>, String> {
             let k = number(&mut w, "k", 1, 16)? as usize;
             Frame::Register { time, number: query, k, terms: pairs(&mut w, 8, "weight", 15)? }
         }
+        "cancel" => Frame::Cancel { time, serial: serial(&mut w)? },
         _ => {
             keyword(&mut w, "query")?;
             Frame::Drop { time, number: number(&mut w, "the query", 0, 31)? as usize }
@@ -212,5 +218,6 @@ fn line(f: &Frame) -> String {
         Frame::Tick { time } => format!("tick {time}"),
         Frame::Register { time, number, k, terms } => format!("register {time} query {number} k {k}{}", pairs(terms)),
         Frame::Drop { time, number } => format!("drop {time} query {number}"),
+        Frame::Cancel { time, serial } => format!("cancel {time} serial {serial}"),
     }
 }

@@ -57,8 +57,8 @@ fn the_first_line() {
 #[test]
 fn frames() {
     for (line, want) in [
-        ("tock 5", "'tock' is no kind of frame: message, tick, register, drop or bytes"),
-        ("engine 3 100", "'engine' is no kind of frame: message, tick, register, drop or bytes"),
+        ("tock 5", "'tock' is no kind of frame: message, tick, register, drop, cancel or bytes"),
+        ("engine 3 100", "'engine' is no kind of frame: message, tick, register, drop, cancel or bytes"),
         ("tick", "the time is missing"),
         ("tick 4294967296", "the time must be a number from 0 to 4294967295, and is '4294967296'"),
         ("tick -1", "the time must be a number from 0 to 4294967295, and is '-1'"),
@@ -92,6 +92,11 @@ fn frames() {
         ("register 0 query 0 k 2 0:1 1:1 2:1 3:1 4:1 5:1 6:1 7:1 8:1", "1 to 8 pairs are expected, and there are 9"),
         ("drop 5", "'query' is missing"),
         ("drop 5 query 3 4", "the line should end, and there is '4'"),
+        ("cancel", "the time is missing"),
+        ("cancel 5", "'serial' is missing"),
+        ("cancel 5 7", "'serial' is expected, and there is '7'"),
+        ("cancel 5 serial 1048576", "the serial must be a number from 0 to 1048575, and is '1048576'"),
+        ("cancel 5 serial 7 5:1", "the line should end, and there is '5:1'"),
         ("bytes 20 0 00", "a byte is two hexadecimal digits, and there is '0'"),
         ("bytes 20 +1", "a byte is two hexadecimal digits, and there is '+1'"),
         ("bytes 2000000780", "a byte is two hexadecimal digits, and there is '2000000780'"),
@@ -110,12 +115,14 @@ fn frames() {
 fn good_texts() {
     // each kind at the end of its ranges; lines ended in both ways; the last one not ended
     let text = "# a passage\r\nengine 256 65535 # N and T\r\n\n  register 0 query 31 k 16 0:1 1023:15\nmessage 7 serial 1048575 0:255#\n\
-                tick 4294967295\nbytes 20 00 00 07 81\nbytes\ndrop 4294967295 query 31";
+                tick 4294967295\nbytes 20 00 00 07 81\nbytes\ncancel 4294967295 serial 1048575\ndrop 4294967295 query 31";
     let plain = "engine 256 65535\nregister 0 query 31 k 16 0:1 1023:15\nmessage 7 serial 1048575 0:255\n\
-                 tick 4294967295\nbytes 20 00 00 07 81\nbytes\ndrop 4294967295 query 31\n";
+                 tick 4294967295\nbytes 20 00 00 07 81\nbytes\ncancel 4294967295 serial 1048575\ndrop 4294967295 query 31\n";
     let input = run(&[], text.as_bytes());
     assert_eq!((input.status, input.said.as_str()), (0, ""));
     assert_eq!(input.output[..4], [255, 255, 255, 10]);
+    // the last two frames, each after its length
+    assert_eq!(input.output[input.output.len() - 15..], [7, 0x5f, 0xff, 0xff, 0xff, 0xff, 0xff, 0xff, 6, 0x4f, 0xff, 0xff, 0xff, 0xff, 0x80]);
     let back = run(&["--text"], &input.output);
     assert_eq!((back.status, back.said.as_str()), (0, ""));
     assert_eq!(String::from_utf8(back.output).unwrap(), plain);

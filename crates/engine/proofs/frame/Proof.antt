@@ -88,12 +88,23 @@ returns-5 c =
 
 returns-6 : tie.Need-returns-6
 returns-6 c =
+    let arm = c .before .before .before .before .before in
+    let parsed = arm .before .before .before .before in
+    let opened = parsed .before .before .before in
+    let bytes = opened .before .args .bytes .now in
+    let read = parsed .read in
+    let m = read-as bytes (read .result) (read .ensures) _ (arm .what5 .given .1) in
+    done _ _ _ _ _ (search needs) (search needs) m (λ i. opened .slice-known .given i .fits) (λ i. c .slice-known6 .given i .fits)
+    (c .before .before .cancel .ensures)
+
+returns-7 : tie.Need-returns-7
+returns-7 c =
     let arm = c .before .before in
     let parsed = arm .before .before .before .before in
     let opened = parsed .before .before .before in
     let bytes = opened .before .args .bytes .now in
     let read = parsed .read in
-    misshapen _ _ _ _ (search needs) (read-as bytes (read .result) (read .ensures) _ (arm .what5 .given .1)) (c .refused2 .ensures)
+    misshapen _ _ _ _ (search needs) (read-as bytes (read .result) (read .ensures) _ (arm .what6 .given .1)) (c .refused2 .ensures)
 
 pub frame-spec : {M : Type 1} → statement M
 frame-spec =
@@ -117,6 +128,8 @@ frame-spec =
     (λ c. search needs)
     (λ c κs. search needs)
     (λ c. search needs)
+    (λ c κs. search needs)
+    (λ c. search needs)
     returns-2
     (λ c. search needs)
     returns-3
@@ -124,4 +137,6 @@ frame-spec =
     returns-4
     (λ c. search needs)
     returns-5
-    returns-6)
+    (λ c. search needs)
+    returns-6
+    returns-7)

@@ -1,5 +1,4 @@
 -- `join` meets its contract. Assumes nothing.
-use native.Mathlib.Omega.{arith}
 use mathlib.Core.Path.{refl}
 use borrow.Author.Needs.{needs}
 use Rattle.engine.proofs.join.Statement.{statement}
@@ -13,12 +12,12 @@ returns c =
     let stored = placed .before .before .before .before in
     record {
       number = refl;
-      departures = omega arith;
+      departures = stored .before .before .in-force .ensures .0;
       written = _;
       message = stored .put-message .ensures;
       moved = _;
       cursor = placed .put-cursor .ensures;
-      passed = updated .update-all .ensures;
+      followed = updated .update-all .ensures;
     }
 
 pub join-spec : {M : Type 1} → statement M
@@ -26,6 +25,7 @@ join-spec =
     tie.close
     (tie.spec
     (λ c. search needs)
+    (λ c κs. search needs)
     (λ c. search needs)
     (λ c κs. search needs)
     (λ c. search needs)

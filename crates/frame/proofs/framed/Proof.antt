@@ -24,12 +24,16 @@ returns-4 c = λ ps em et ea. let e = c .pairless2 .ensures in rw (c .before .ma
 
 returns-5 : tie.Need-returns-5
 unfolding frameOf
-returns-5 c = λ ps em et ea.
+returns-5 c = λ ps em et ea. let e = c .pairless3 .ensures in rw (c .before .match .keys5) (record { what = e .0; terms = e .1; amounts = e .2 })
+
+returns-6 : tie.Need-returns-6
+unfolding frameOf
+returns-6 c = λ ps em et ea.
     let k = c .before .before .args .kind in
     let no = c .before .match .rest in
-    rw (ne-eqb k 1 (no .0 .0 .0 .1), ne-eqb k 2 (no .0 .0 .1), ne-eqb k 3 (no .0 .1), ne-eqb k 4 (no .1)) (c .refusal .ensures)
+    rw (ne-eqb k 1 (no .0 .0 .0 .0 .1), ne-eqb k 2 (no .0 .0 .0 .1), ne-eqb k 3 (no .0 .0 .1), ne-eqb k 4 (no .0 .1), ne-eqb k 5 (no .1)) (c .refusal .ensures)
 
 pub framed-spec : {M : Type 1} → statement M
 framed-spec =
     tie.close (tie.spec (λ c. omega arith) (λ c. omega arith) (λ c κs. tt) (λ c. omega arith) (λ c. omega arith) (λ c. omega arith)
-    (λ c. omega arith) (λ c κs. tt) (λ c κs. tt) returns returns-2 returns-3 returns-4 returns-5)
+    (λ c. omega arith) (λ c κs. tt) (λ c. omega arith) (λ c κs. tt) (λ c κs. tt) returns returns-2 returns-3 returns-4 returns-5 returns-6)

@@ -48,12 +48,16 @@ unfolding rowOf fitting headWithin
 returns-4 c = λ ts us. rw (c .match .keys4) (record { fit = refl; are = λ _. refl })
 
 returns-5 : tie.Need-returns-5
+unfolding rowOf fitting headWithin
+returns-5 c = λ ts us. rw (c .match .keys5) (record { fit = refl; are = λ _. refl })
+
+returns-6 : tie.Need-returns-6
 unfolding fitting headWithin
-returns-5 c = λ ts us.
+returns-6 c = λ ts us.
     let no = c .match .rest in
-    let e = no-row (c .before .args .kind) (no .0 .0 .0 .1) (no .0 .0 .1) (no .0 .1) (no .1) in
+    let e = no-row (c .before .args .kind) (no .0 .0 .0 .0 .1) (no .0 .0 .0 .1) (no .0 .0 .1) (no .0 .1) (no .1) in
     record { fit = rw e; are = λ _. rw e }
 
 pub values-of-spec : {M : Type 1} → statement M
 values-of-spec =
-    tie.close (tie.spec (λ c κs. tt) (λ c κs. tt) (λ c κs. tt) returns returns-2 returns-3 returns-4 returns-5)
+    tie.close (tie.spec (λ c κs. tt) (λ c κs. tt) (λ c κs. tt) returns returns-2 returns-3 returns-4 returns-5 returns-6)

@@ -1,24 +1,24 @@
--- `raise_newest` meets its contract. Assumes nothing.
+-- `raise_one` meets its contract. Assumes nothing.
 use native.Mathlib.Omega.{arith}
 use mathlib.Core.Path.{refl}
 use borrow.Author.Needs.{needs}
 use Rattle.memory.specs.Words.{words}
 use Rattle.engine.proofs.ArrivingLaws.{raised-one, raised-none}
-use Rattle.engine.proofs.raise_newest.Statement.{statement}
-use Rattle.engine.proofs.raise_newest.Tie as tie
+use Rattle.engine.proofs.raise_one.Statement.{statement}
+use Rattle.engine.proofs.raise_one.Tie as tie
 
 returns : tie.Need-returns
 returns c =
     let a = c .before .before .before .before .before .before .before .args in
-    let e = c .before .before .raise-all .ensures in (e .0, raised-one (words (a .state .now)) (a .newest) (omega arith) (e .1))
+    let e = c .before .before .raise-all .ensures in (e .0, raised-one (words (a .state .now)) (a .j) (omega arith) (e .1))
 
 returns-2 : tie.Need-returns-2
 returns-2 c =
     let a = c .before .before .before .args in
-    (search needs, raised-none (words (a .state .now)) (a .newest) (omega arith) refl)
+    (search needs, raised-none (words (a .state .now)) (a .j) (omega arith) refl)
 
-pub raise-newest-spec : {M : Type 1} → statement M
-raise-newest-spec =
+pub raise-one-spec : {M : Type 1} → statement M
+raise-one-spec =
     tie.close
     (tie.spec
     (λ c κs. search needs)
