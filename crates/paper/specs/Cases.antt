@@ -92,7 +92,7 @@ c10 =
     ∷ message 119 9 (at 5 1 ∷ [])
     ∷ [])
 
--- messages cancelled at 40 with their serials used again, pushed out for N and past
+-- The best message cancelled: its serial is free at once, and it leaves for N uncounted. Then 7 before 13, and 13 for one that is past.
 abbrev pub cancelled : List (List ℕ)
 cancelled =
     map encode
@@ -106,6 +106,26 @@ cancelled =
     ∷ message 42 4 (at 9 1 ∷ [])
     ∷ cancel 39 3
     ∷ cancel 131 3
+    ∷ tick 142
+    ∷ [])
+
+-- Cancelled at 40 message 2, which isn't listed, and at 42 message 3, which is. Message 1 leaves for N since message 2's place stays filled, and neither
+-- of the two departs again: 2 leaves for N at 43, 3 is past at 131. Serial 2 is used again. At 43 a cancellation is late, of a serial not in force.
+abbrev pub cancelledUnlisted : List (List ℕ)
+cancelledUnlisted =
+    map encode
+    (registered
+    ∷ message 10 1 (at 5 3 ∷ at 9 4 ∷ [])
+    ∷ message 20 2 (at 5 1 ∷ [])
+    ∷ message 30 3 (at 9 1 ∷ at 40 1 ∷ [])
+    ∷ cancel 40 2
+    ∷ message 41 2 (at 5 1 ∷ [])
+    ∷ cancel 42 3
+    ∷ cancel 42 3
+    ∷ message 43 4 (at 9 1 ∷ [])
+    ∷ cancel 42 1
+    ∷ tick 131
+    ∷ cancel 142 2
     ∷ tick 142
     ∷ [])
 
@@ -170,6 +190,21 @@ table =
     ∷ (7 ∷ 0 ∷ 4 ∷ 2000 ∷ 3 ∷ 1414 ∷ [])
     ∷ (13 ∷ 0 ∷ 4 ∷ 2000 ∷ 3 ∷ 1414 ∷ [])
     ∷ (0 ∷ 2 ∷ 4 ∷ 2000 ∷ [])
+    ∷ [])
+    ∷ passage 3 100 cancelledUnlisted
+    ((0 ∷ 0 ∷ [])
+    ∷ (0 ∷ 0 ∷ 1 ∷ 2200 ∷ [])
+    ∷ (0 ∷ 0 ∷ 1 ∷ 2200 ∷ 2 ∷ 1000 ∷ [])
+    ∷ (0 ∷ 0 ∷ 1 ∷ 2200 ∷ 3 ∷ 1414 ∷ [])
+    ∷ (0 ∷ 1 ∷ 1 ∷ 2200 ∷ 3 ∷ 1414 ∷ [])
+    ∷ (0 ∷ 1 ∷ 3 ∷ 1414 ∷ 2 ∷ 1000 ∷ [])
+    ∷ (0 ∷ 1 ∷ 2 ∷ 1000 ∷ [])
+    ∷ (13 ∷ 0 ∷ 2 ∷ 1000 ∷ [])
+    ∷ (0 ∷ 0 ∷ 4 ∷ 2000 ∷ 2 ∷ 1000 ∷ [])
+    ∷ (7 ∷ 0 ∷ 4 ∷ 2000 ∷ 2 ∷ 1000 ∷ [])
+    ∷ (0 ∷ 0 ∷ 4 ∷ 2000 ∷ 2 ∷ 1000 ∷ [])
+    ∷ (13 ∷ 0 ∷ 4 ∷ 2000 ∷ 2 ∷ 1000 ∷ [])
+    ∷ (0 ∷ 1 ∷ 4 ∷ 2000 ∷ [])
     ∷ [])
     -- "Order for a frame": of all that is wrong the first is told. Each row mends one thing of the row above.
     ∷ judging (0x00 ∷ 0x00 ∷ 0x00 ∷ 0x00 ∷ []) 1
