@@ -370,7 +370,7 @@ impl Passage {
     }
 }
 
-const ROUNDS: u64 = 2;
+const ROUNDS: u64 = 3;
 
 /// Every number of ORDER must be met, and every event but those that the style rules out. With another seed or fewer rounds a rare event may be
 /// missing, so there events aren't asked for.
@@ -413,7 +413,7 @@ fn run_from(start: u32, style: Style, frames: usize, own_seed: u64, ruled_out: &
 
 #[test]
 fn ordinary() {
-    run(Style { capacity: 64, life: 200, terms: 40, counts: 9, serials: 4000, queries: 32, step: 3, jump: 60, cancels: 6 }, 2000, 2, &[]);
+    run(Style { capacity: 64, life: 200, terms: 40, counts: 9, serials: 200, queries: 32, step: 2, jump: 60, cancels: 18 }, 6000, 2, &[]);
 }
 
 #[test]
@@ -432,9 +432,10 @@ fn one_message_in_force() {
         Event::UnreachedByACancellation,
         Event::CancelledLeavingItsSerialListed,
     ];
-    run(Style { capacity: 1, life: 50, terms: 6, counts: 3, serials: 4, queries: 8, step: 4, jump: 10, cancels: 6 }, 1500, 2, &ruled_out);
+    run(Style { capacity: 1, life: 50, terms: 6, counts: 3, serials: 4, queries: 8, step: 4, jump: 10, cancels: 18 }, 1500, 2, &ruled_out);
 }
 
+/// Fewer cancellations than elsewhere: most of the 256 places are to be filled by messages in force.
 #[test]
 fn a_full_ring() {
     run(Style { capacity: 256, life: 65535, terms: 12, counts: 4, serials: 1 << 20, queries: 6, step: 1, jump: 400, cancels: 6 }, 6500, 12, &[]);
@@ -443,24 +444,24 @@ fn a_full_ring() {
 #[test]
 fn one_second_of_life() {
     let ruled_out = [Event::OldestLeavingForN, Event::LastSecondCutForN, Event::CancelledPushedOut, Event::CancelledLeavingForN];
-    run(Style { capacity: 256, life: 1, terms: 8, counts: 3, serials: 60, queries: 12, step: 1, jump: 10, cancels: 6 }, 2000, 4, &ruled_out);
+    run(Style { capacity: 256, life: 1, terms: 8, counts: 3, serials: 60, queries: 12, step: 1, jump: 10, cancels: 18 }, 2000, 4, &ruled_out);
 }
 
 #[test]
 fn ties() {
-    run(Style { capacity: 40, life: 300, terms: 2, counts: 1, serials: 500, queries: 10, step: 2, jump: 60, cancels: 6 }, 2000, 8, &[]);
+    run(Style { capacity: 40, life: 300, terms: 2, counts: 1, serials: 120, queries: 10, step: 2, jump: 60, cancels: 18 }, 8000, 8, &[]);
 }
 
 #[test]
 fn extreme_counts() {
-    run(Style { capacity: 100, life: 1000, terms: 1024, counts: 255, serials: 1 << 20, queries: 32, step: 9, jump: 60, cancels: 6 }, 4000, 6, &[]);
+    run(Style { capacity: 100, life: 1000, terms: 1024, counts: 255, serials: 1 << 20, queries: 32, step: 6, jump: 60, cancels: 18 }, 8000, 6, &[]);
 }
 
 /// The clock's last second comes about half way, and there it stays.
 #[test]
 fn up_to_the_clocks_end() {
-    let style = Style { capacity: 30, life: 90, terms: 10, counts: 4, serials: 300, queries: 12, step: 3, jump: 30, cancels: 6 };
-    run_from(u32::MAX - 2000, style, 2000, 12, &[]);
+    let style = Style { capacity: 30, life: 90, terms: 10, counts: 4, serials: 300, queries: 12, step: 3, jump: 30, cancels: 18 };
+    run_from(u32::MAX - 6000, style, 6000, 12, &[]);
 }
 
 /// As many cancellations as messages, of few serials: most places are filled by cancelled messages, several often of one serial.

@@ -275,17 +275,17 @@ fn compare(style: Style, count: usize, seed: u64) {
 
 #[test]
 fn random_passage() {
-    compare(Style { capacity: 64, life: 200, terms: 40, counts: 9, serials: 4000, queries: 32, step: 3, jump: 60, cancels: 6 }, 4000, 21);
+    compare(Style { capacity: 64, life: 200, terms: 40, counts: 9, serials: 200, queries: 32, step: 3, jump: 60, cancels: 18 }, 4000, 21);
 }
 
 #[test]
 fn random_passage_of_many_messages() {
-    compare(Style { capacity: 256, life: 9000, terms: 12, counts: 4, serials: 1 << 20, queries: 6, step: 1, jump: 300, cancels: 6 }, 3000, 22);
+    compare(Style { capacity: 256, life: 9000, terms: 12, counts: 4, serials: 700, queries: 6, step: 1, jump: 300, cancels: 18 }, 3000, 22);
 }
 
 #[test]
 fn random_passage_of_ties() {
-    compare(Style { capacity: 40, life: 300, terms: 2, counts: 1, serials: 500, queries: 10, step: 2, jump: 60, cancels: 18 }, 3000, 23);
+    compare(Style { capacity: 40, life: 300, terms: 2, counts: 1, serials: 120, queries: 10, step: 2, jump: 60, cancels: 18 }, 3000, 23);
 }
 
 // ---- long inputs
