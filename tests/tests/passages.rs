@@ -765,3 +765,26 @@ fn cancelled_below_the_threshold() {
     assert_eq!(done(&mut p, &cancel(10, 4)), (1, 1, vec![2]));
     assert_eq!(engine::list(&p.state, 0), Ok(vec![(2, 707)]));
 }
+
+// ---- impacts
+
+/// The impact of a term that a message has f times, beside so many others that it has g times each, by the rule itself: each in N 1, so alone.
+fn assert_impacts(others: u32, counts: impl Iterator<Item = (u32, u32)>) {
+    let mut state = Lent::new(&[0; STATE]);
+    assert_eq!(engine::start(&mut state, 1, 1), 0);
+    for (serial, (f, g)) in counts.enumerate() {
+        let pairs = std::iter::once((5, f)).chain((0..others).map(|i| (6 + i, g))).collect();
+        assert_eq!(engine::frame(&mut state, &Frame::Message { time: 0, serial: serial as u32, pairs }.bytes()).number, 0);
+        let [(_, impact)] = engine::postings(&state, 5, 8).unwrap()[..] else { panic!("term 5 has one posting") };
+        let (w, n, reach) = (impact as u64, (f * f + others * g * g) as u64, TOP * f as u64);
+        assert!(w * w * n <= reach * reach && reach * reach < (w + 1) * (w + 1) * n, "{w} for {f} beside {others} of {g}");
+    }
+}
+
+#[test]
+fn impacts_of_every_two_counts() {
+    assert_impacts(0, (1..=255).map(|f| (f, 0)));
+    for others in [1, 15] {
+        assert_impacts(others, (1..=255).flat_map(|f| (1..=255).map(move |g| (f, g))));
+    }
+}

@@ -1,2 +1,4 @@
 pub mod CellLaws
-pub mod Steps
+pub mod Newton
+pub mod Places
+pub mod Table

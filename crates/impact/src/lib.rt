@@ -1,65 +1,120 @@
 // The impact of a term in a message: the cosine of document 001, scaled to whole numbers.
 ghost use mathlib.Core.Path.{_≡_};
-ghost use Prim.Native.Nat.{ℕ, _+_, _*_, _^_, _<_, _≤_, min};
-ghost use mathlib.Core.Bool.{cond};
-ghost use mathlib.Core.Logic.{_↔_};
+ghost use Prim.Native.Nat.{ℕ, _+_, _*_, _/_, _^_, _<_, _≤_, min, max};
 ghost use lib.ListN.{getD};
 ghost use Rattle.paper.specs.Frame.{termWidth, countWidth, mostPairs};
 ghost use Rattle.paper.specs.Impact.{top, impact};
 ghost use Rattle.impact.specs.Cell.{impactWidth, packed, squaresOf};
+ghost use Rattle.impact.specs.Table.{squareTable, reach};
+
+mod squares;
+
+use squares::SQUARES;
 
 pub struct Impact {
     pub value: u32,
 }
 
 impl Impact {
-    // The top of the scale.
+    // The top of the scale, and the last place of the table of squares.
     pub const TOP: u32 = 1000;
 
-    // The impact of a count in a message whose counts squared sum to `squares`: bit by bit from the highest, without a branch, since no step can be foretold.
+    // The impact of a count in a message whose counts squared sum to `squares`: the greatest place of the table whose entry, as w², meets the rule.
+    // The impact of a count of 1, in fine parts, leaves one place or two, and of two the table decides. A look at the table copies it.
     pub fn of(count: u32, squares: u32) -> Impact
         requires { ⌜ count < 2 ^ countWidth ⌝ }
         ensures { λ r. ⌜ r .value ≡ impact count squares ⌝ }
     {
-        let most = most_square(count, squares);
-        let mut low: u32 = 0;
-        let mut step = HIGHEST_BIT;
-        while 0 < step {
-            let mid = (low + step) as u64;
-            low += step * digit(mid * mid <= most);
-            step /= 2;
+        let parts = count * unit(greater(squares, 1));
+        let low = lesser(parts / FINE, Impact::TOP);
+        let high = lesser((parts + count) / FINE, Impact::TOP);
+        if squares == 0 {
+            return Impact { value: Impact::TOP };
+        }
+        if low < high {
+            let most = most_square(count, squares);
+            return Impact {
+                value: place(low, high, most),
+            };
         }
         Impact { value: low }
     }
 }
 
-// The greatest power of two on the scale.
-const HIGHEST_BIT: u32 = 512;
+// The parts of a place, and those of the whole scale. Every count up to 10 divides both, so that alone in a message such a count leaves one place.
+const FINE: u32 = 5040;
 
-const TOP_SQUARE: u64 = (Impact::TOP as u64) * (Impact::TOP as u64);
+const REACH: u64 = (FINE as u64) * (Impact::TOP as u64);
 
-fn digit(b: bool) -> u32
-    ensures { λ r. ⌜ r ≡ cond b 1 0 ⌝ }
-{
-    if b { 1 } else { 0 }
-}
-
-fn lesser(a: u64, b: u64) -> u64
+fn lesser(a: u32, b: u32) -> u32
     ensures { λ r. ⌜ r ≡ min a b ⌝ }
 {
     if a < b { a } else { b }
 }
 
-// What the square of an impact is at most: one division for a term, and none for a step.
-fn most_square(count: u32, squares: u32) -> u64
-    requires { ⌜ count < 2 ^ countWidth ⌝ }
-    ensures { λ r. ⌜ ((v : ℕ) → (v * v ≤ r) ↔ ((v ≤ top) × (v * v * squares ≤ (top * count) * (top * count)))) ⌝ }
+fn greater(a: u32, b: u32) -> u32
+    ensures { λ r. ⌜ r ≡ max a b ⌝ }
 {
-    if squares == 0 {
-        return TOP_SQUARE;
+    if a < b { b } else { a }
+}
+
+// A step of Newton's iteration for the root of `most`, which is no more than the parts of the scale.
+fn closer(most: u64, guess: u64) -> u64
+    requires { ⌜ (most ≤ reach * reach) × (0 < guess) × (guess ≤ reach) ⌝ }
+    ensures { λ r. ⌜ r ≡ min ((guess + most / guess) / 2) reach ⌝ }
+{
+    let mean = (guess + most / guess) / 2;
+    if mean < REACH { mean } else { REACH }
+}
+
+// The impact of a count of 1 where the squares sum to n, in fine parts and cut. From this start four steps are nearly always enough; they stand before
+// the loop so that the compiler takes them once for all counts of a message.
+fn unit(n: u32) -> u32
+    requires { ⌜ 0 < n ⌝ }
+    ensures { λ r. ⌜ (r * r * n ≤ reach * reach) × (reach * reach < (r + 1) * (r + 1) * n) ⌝ }
+{
+    let most = REACH * REACH / (n as u64);
+    let start = REACH >> ((32 - u32::leading_zeros(n)) / 2);
+    let mut guess = closer(most, closer(most, closer(most, closer(most, start))));
+    while most < guess * guess {
+        guess = closer(most, guess);
     }
+    guess as u32
+}
+
+// What the square of an impact is at most.
+fn most_square(count: u32, squares: u32) -> u64
+    requires { ⌜ (count < 2 ^ countWidth) × (0 < squares) ⌝ }
+    ensures { λ r. ⌜ r ≡ (top * count) * (top * count) / squares ⌝ }
+{
     let reach = (Impact::TOP as u64) * (count as u64);
-    lesser(reach * reach / (squares as u64), TOP_SQUARE)
+    reach * reach / (squares as u64)
+}
+
+// The greatest place from `first` to `last` whose entry is at most `most`.
+fn place(first: u32, last: u32, most: u64) -> u32
+    requires { ⌜ (first ≤ last) × (last ≤ top) × (first * first ≤ most) ⌝ }
+    ensures { λ r. ⌜ (r ≤ last) × (r * r ≤ most) × ((v : ℕ) → v ≤ last → v * v ≤ most → v ≤ r) ⌝ }
+{
+    let mut low = first;
+    let mut high = last;
+    while low < high {
+        let middle = (low + high + 1) / 2;
+        if (square(middle as usize) as u64) <= most {
+            low = middle;
+        } else {
+            high = middle - 1;
+        }
+    }
+    low
+}
+
+// An entry of the table.
+fn square(place: usize) -> u32
+    requires { ⌜ place ≤ top ⌝ }
+    ensures { λ r. ⌜ r ≡ getD squareTable place 0 ⌝ }
+{
+    SQUARES[place]
 }
 
 // In a cell's word the impact has fourteen bits, the count eight above it, and the term those above.

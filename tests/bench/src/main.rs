@@ -4,6 +4,7 @@ mod count;
 mod eager;
 mod full;
 mod gaps;
+mod impacts;
 mod measure;
 mod naive;
 mod plain;
@@ -22,9 +23,10 @@ fn main() {
     match arguments.iter().map(String::as_str).collect::<Vec<_>>()[..] {
         [] => report::print(PLOT),
         ["--count"] => count::print(),
+        ["--earlier", path] => report::beside_earlier(path),
         [path] if !path.starts_with('-') => report::print(path),
         _ => {
-            eprintln!("usage: bench [--count | PLOT.svg]");
+            eprintln!("usage: bench [--count | --earlier LIBRARY.so | PLOT.svg]");
             std::process::exit(2);
         }
     }

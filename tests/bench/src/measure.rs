@@ -5,7 +5,7 @@ use crate::full::Full;
 use crate::gaps::StoredGaps;
 use crate::naive::Naive;
 use crate::plain::{Method, Plain, Walk, Wide};
-use crate::proved::Proved;
+use crate::proved::{Earlier, Engine, Proved};
 use crate::tables::Tables;
 use crate::workload::{Passage, Setting};
 use std::time::Instant;
@@ -85,6 +85,9 @@ pub const RIVALS: [Rival; 8] = [
     Rival { name: "tables", run: run::<Plain<Tables>>, slow: false, same: true },
     Rival { name: "stored gaps", run: run::<Plain<StoredGaps>>, slow: false, same: false },
 ];
+
+/// The proved engine of an earlier archive, which is to be loaded first.
+pub const EARLIER: Rival = Rival { name: "earlier", run: run::<Engine<Earlier>>, slow: false, same: true };
 
 /// A setting's measurements.
 pub struct Row {

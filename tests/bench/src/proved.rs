@@ -1,30 +1,97 @@
-//! The proved engine, as a C host calls it.
+//! The proved engine, as a C host calls it: of the archive that the bench is linked with, or of an earlier one.
 
 use crate::plain::Method;
 use fennelrake_tests::engine::{word, FRAME_ANSWER, LIST_ANSWER, STATE};
+use std::ffi::{c_char, c_int, c_void, CStr, CString};
+use std::marker::PhantomData;
+use std::sync::OnceLock;
+
+type Start = unsafe extern "C" fn(state: *mut u8, state_len: usize, capacity: u32, life: u32) -> u32;
+type Take = unsafe extern "C" fn(state: *mut u8, state_len: usize, bytes: *const u8, bytes_len: usize, answer: *mut u8, answer_len: usize) -> u32;
+type List = unsafe extern "C" fn(state: *const u8, state_len: usize, number: u32, answer: *mut u8, answer_len: usize) -> u32;
 
 extern "C" {
     fn fennelrake_start(state: *mut u8, state_len: usize, capacity: u32, life: u32) -> u32;
     fn fennelrake_frame(state: *mut u8, state_len: usize, bytes: *const u8, bytes_len: usize, answer: *mut u8, answer_len: usize) -> u32;
     fn fennelrake_list(state: *const u8, state_len: usize, number: u32, answer: *mut u8, answer_len: usize) -> u32;
+    fn dlopen(path: *const c_char, flags: c_int) -> *mut c_void;
+    fn dlsym(library: *mut c_void, name: *const c_char) -> *mut c_void;
 }
 
-pub struct Proved {
+pub struct Calls {
+    start: Start,
+    frame: Take,
+    list: List,
+}
+
+/// Where the engine's calls are found.
+pub trait Archive {
+    fn calls() -> &'static Calls;
+}
+
+pub struct Linked;
+
+impl Archive for Linked {
+    fn calls() -> &'static Calls {
+        &Calls { start: fennelrake_start, frame: fennelrake_frame, list: fennelrake_list }
+    }
+}
+
+/// An earlier archive, made into a shared library.
+pub struct Earlier;
+
+static EARLIER: OnceLock<Calls> = OnceLock::new();
+
+impl Earlier {
+    pub fn load(path: &str) {
+        const RTLD_NOW_LOCAL: c_int = 2;
+        let path_in_c = CString::new(path).expect("a path");
+        // SAFETY: the path ends with a zero byte; the library runs no code of its own when it is loaded
+        let library = unsafe { dlopen(path_in_c.as_ptr(), RTLD_NOW_LOCAL) };
+        assert!(!library.is_null(), "{path}: no shared library");
+        let find = |name: &CStr| {
+            // SAFETY: the library was loaded, and the name ends with a zero byte
+            let call = unsafe { dlsym(library, name.as_ptr()) };
+            assert!(!call.is_null(), "{path}: no {name:?}");
+            call
+        };
+        // SAFETY: the header gives the functions of these names these types
+        let calls = unsafe {
+            Calls {
+                start: std::mem::transmute::<*mut c_void, Start>(find(c"fennelrake_start")),
+                frame: std::mem::transmute::<*mut c_void, Take>(find(c"fennelrake_frame")),
+                list: std::mem::transmute::<*mut c_void, List>(find(c"fennelrake_list")),
+            }
+        };
+        assert!(EARLIER.set(calls).is_ok(), "loaded twice");
+    }
+}
+
+impl Archive for Earlier {
+    fn calls() -> &'static Calls {
+        EARLIER.get().expect("a loaded library")
+    }
+}
+
+pub struct Engine<A> {
     state: Vec<u8>,
+    archive: PhantomData<A>,
 }
 
-impl Method for Proved {
+pub type Proved = Engine<Linked>;
+
+impl<A: Archive> Method for Engine<A> {
     fn start(capacity: usize, life: u32) -> Self {
         let mut state = vec![0; STATE];
         // SAFETY: the pointer and length are of one slice
-        assert_eq!(unsafe { fennelrake_start(state.as_mut_ptr(), STATE, capacity as u32, life) }, 0);
-        Proved { state }
+        assert_eq!(unsafe { (A::calls().start)(state.as_mut_ptr(), STATE, capacity as u32, life) }, 0);
+        Engine { state, archive: PhantomData }
     }
 
     fn frame(&mut self, bytes: &[u8]) -> Result<usize, u32> {
         let mut answer = [0; FRAME_ANSWER];
         // SAFETY: each pointer and length are of one slice, and the slices don't overlap
-        let number = unsafe { fennelrake_frame(self.state.as_mut_ptr(), STATE, bytes.as_ptr(), bytes.len(), answer.as_mut_ptr(), FRAME_ANSWER) };
+        let number = unsafe { (A::calls().frame)(self.state.as_mut_ptr(), STATE, bytes.as_ptr(), bytes.len(), answer.as_mut_ptr(), FRAME_ANSWER) };
         match number {
             0 => Ok(word(&answer, 0).count_ones() as usize),
             refusal => Err(refusal),
@@ -34,7 +101,7 @@ impl Method for Proved {
     fn list(&self, q: usize) -> Vec<(u32, u32)> {
         let mut answer = [0; LIST_ANSWER];
         // SAFETY: as above
-        assert_eq!(unsafe { fennelrake_list(self.state.as_ptr(), STATE, q as u32, answer.as_mut_ptr(), LIST_ANSWER) }, 0);
+        assert_eq!(unsafe { (A::calls().list)(self.state.as_ptr(), STATE, q as u32, answer.as_mut_ptr(), LIST_ANSWER) }, 0);
         (0..word(&answer, 0) as usize).map(|i| (word(&answer, 1 + i), word(&answer, 17 + i))).collect()
     }
 }

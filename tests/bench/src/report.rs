@@ -1,8 +1,9 @@
 //! The tables of a run, and the plot.
 
-use crate::measure::{beside, measured, Row, RIVALS};
+use crate::measure::{beside, measured, Row, EARLIER, RIVALS};
+use crate::proved::Earlier;
 use crate::workload::{Departure, Passage, Setting, MESSAGES, SEED, SHARED};
-use crate::{plot, reading};
+use crate::{impacts, plot, reading};
 
 /// The classroom: so many engines on one machine, each taking in so many messages.
 const BOARDS: u64 = 40;
@@ -98,7 +99,25 @@ pub fn print(path: &str) {
     classroom();
     println!("\nDepartures from full windows: {BOARDS} engines, N 256, {DEPARTURES} messages from each:\n");
     cancellations();
+    println!("\nThe impacts of a message alone, in plain Rust; the ratio is the way's time over that of the unit and the table:\n");
+    impacts::print();
     println!("\nReading a frame alone; the ratio is the plain reader's time over the proved one's:\n");
     reading::print();
     std::fs::write(path, plot::svg(&rows)).unwrap_or_else(|e| panic!("{path}: {e}"));
+}
+
+/// The proved engine beside that of an earlier archive: one engine with each of the workloads, and the classroom with the same messages.
+pub fn beside_earlier(library: &str) {
+    Earlier::load(library);
+    println!("The earlier engine's time over this one's, N 256, so ABOVE 1 THIS ENGINE IS FASTER.\n");
+    println!("| engines | shared terms | queries | messages per second for each | ratio |\n|---|---|---|---|---|");
+    for (engines, messages) in [(1, MESSAGES), (BOARDS as usize, BOARD_MESSAGES)] {
+        for (terms, shared) in SHARED {
+            for queries in [1, 32] {
+                let passage = Passage::new(Setting { capacity: 256, queries, terms }, messages, SEED);
+                let row = measured(&vec![&passage; engines], &[EARLIER]);
+                println!("| {engines} | {shared} | {queries} | {:.0} | {:.2} |", row.messages_per_second, row.ratios[0]);
+            }
+        }
+    }
 }
