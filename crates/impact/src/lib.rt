@@ -28,6 +28,7 @@ impl Impact {
         let parts = count * unit(greater(squares, 1));
         let low = lesser(parts / FINE, Impact::TOP);
         let high = lesser((parts + count) / FINE, Impact::TOP);
+        // Every place meets the rule where no squares are. The unit is found before this is asked, so that it depends on no branch.
         if squares == 0 {
             return Impact { value: Impact::TOP };
         }

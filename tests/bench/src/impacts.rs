@@ -1,7 +1,7 @@
-//! The impacts of a message alone, in plain Rust: bit by bit, as they were found before the table of squares; by the unit and the table, as the proved
-//! engine finds them; by a table of squares for each count; and by a root in floating point, as the rivals do.
+//! The impacts of a message alone, in plain Rust: by the unit and the table, as the proved engine finds them; bit by bit, as it did before; by halving
+//! the table for each count; and by a root in floating point, as the rivals do.
 
-use crate::plain::TOP;
+use crate::plain::{impact, TOP};
 use fennelrake_tests::random::Random;
 use std::hint::black_box;
 use std::time::Instant;
@@ -24,7 +24,7 @@ static SQUARES: [u32; TOP as usize + 1] = {
 };
 
 fn most_square(f: u32, n: u32) -> u64 {
-    (TOP as u64 * f as u64).pow(2) / n.max(1) as u64
+    (TOP as u64 * f as u64).pow(2) / n as u64
 }
 
 #[inline(always)]
@@ -78,11 +78,6 @@ fn by_unit(f: u32, n: u32, unit: u32) -> u32 {
     low
 }
 
-#[inline(always)]
-fn in_floating_point(f: u32, n: u32) -> u32 {
-    (most_square(f, n) as f64).sqrt() as u32
-}
-
 type Counts = Vec<u32>;
 
 /// The impacts of a message in sixteen places.
@@ -95,7 +90,7 @@ const WAYS: [(&str, Way); 4] = [
     }),
     ("bit by bit", |fs, n, out| fs.iter().zip(out).for_each(|(f, w)| *w = bit_by_bit(*f, n))),
     ("by halving the table", |fs, n, out| fs.iter().zip(out).for_each(|(f, w)| *w = halving(*f, n))),
-    ("by a root in floating point", |fs, n, out| fs.iter().zip(out).for_each(|(f, w)| *w = in_floating_point(*f, n))),
+    ("by a root in floating point", |fs, n, out| fs.iter().zip(out).for_each(|(f, w)| *w = impact(*f as u16, n) as u32)),
 ];
 
 /// The counts of messages, each count up to `most`, and the sums of their squares.
