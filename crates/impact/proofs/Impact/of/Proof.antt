@@ -27,10 +27,12 @@ between : (c : tie.Else1) → let s = c .before .before .before .before .before 
 between c =
     let s = c .before .before .before .before .before .args in
     let n : c .before .before .before .before .greater .result ≡ s .squares = let e = c .before .before .before .before .greater .ensures in omega arith in
-    let u = c .before .before .before .unit .ensures in (
-      rw (c .before .before .lesser .ensures) (low-place (s .count) (s .squares) _ (omega arith) (rw n at (u .0))),
-      rw (c .before .lesser2 .ensures) (high-place (s .count) (s .squares) _ (omega arith) (rw n at (u .1))),
-    )
+    let u = c .before .before .before .unit .ensures in
+    let l = low-place (s .count) (s .squares) (c .before .before .before .unit .result) (omega arith) (rw n at (u .0)) in
+    let h = high-place (s .count) (s .squares) (c .before .before .before .unit .result) (omega arith) (rw n at (u .1)) in
+    let d = c .before .before .lesser .ensures in
+    let e = c .before .lesser2 .ensures in
+    (omega arith, omega arith)
 
 place-requires : tie.Need-place-requires
 place-requires c κs =
