@@ -4,7 +4,7 @@
  *   cc -std=c99 host.c $(pkg-config --cflags --libs fennelrake) -o host && ./host
  *
  * The passage is C10 of the document that describes the ranker: at most 3 messages in force, each up to the age of 100 seconds. Then a message is
- * cancelled and sent again, mended. The lines printed are the document's:
+ * cancelled and sent again, mended; and of messages with equal scores a vital one stands first. The lines printed are the document's:
  *
  *   ordinal, number, marks, departures      for each frame
  *   Q, query, entries, serial and score ..  after it, for each marked query that is still registered
@@ -20,28 +20,31 @@
 
 /* The fields of a frame; those that its kind doesn't have are 0. */
 struct fields {
-    uint32_t kind, time, serial, number, k, pairs;
+    uint32_t kind, time, serial, urgency, number, k, pairs;
     uint16_t terms[FENNELRAKE_MOST_PAIRS];
     uint8_t amounts[FENNELRAKE_MOST_PAIRS]; /* the counts of a message, the weights of a query */
 };
 
 static const struct fields passage[] = {
     /* query 0, the best 2 messages: term 5 with weight 1, term 9 with weight 2 */
-    {FENNELRAKE_REGISTER, 0, 0, 0, 2, 2, {5, 9}, {1, 2}},
+    {FENNELRAKE_REGISTER, 0, 0, 0, 0, 2, 2, {5, 9}, {1, 2}},
     /* serial 1 has term 5 three times and term 9 four times; and so on */
-    {FENNELRAKE_MESSAGE, 10, 1, 0, 0, 2, {5, 9}, {3, 4}},
-    {FENNELRAKE_MESSAGE, 20, 2, 0, 0, 1, {5}, {1}},
-    {FENNELRAKE_MESSAGE, 30, 3, 0, 0, 2, {9, 40}, {1, 1}},
+    {FENNELRAKE_MESSAGE, 10, 1, 0, 0, 0, 2, {5, 9}, {3, 4}},
+    {FENNELRAKE_MESSAGE, 20, 2, 0, 0, 0, 1, {5}, {1}},
+    {FENNELRAKE_MESSAGE, 30, 3, 0, 0, 0, 2, {9, 40}, {1, 1}},
     /* the fourth message is one more than can be in force: serial 1 leaves */
-    {FENNELRAKE_MESSAGE, 40, 4, 0, 0, 2, {5, 6}, {1, 2}},
+    {FENNELRAKE_MESSAGE, 40, 4, 0, 0, 0, 2, {5, 6}, {1, 2}},
     /* the clock moves on to 120: serial 2, of time 20, is 100 seconds old and in its last second */
-    {FENNELRAKE_TICK, 120, 0, 0, 0, 0, {0}, {0}},
+    {FENNELRAKE_TICK, 120, 0, 0, 0, 0, 0, {0}, {0}},
     /* a time before the clock: refused as 7, and nothing changes */
-    {FENNELRAKE_MESSAGE, 119, 9, 0, 0, 1, {5}, {1}},
+    {FENNELRAKE_MESSAGE, 119, 9, 0, 0, 0, 1, {5}, {1}},
     /* the port cancels serial 2: it departs, off the list and the postings at once */
-    {FENNELRAKE_CANCEL, 120, 2, 0, 0, 0, {0}, {0}},
+    {FENNELRAKE_CANCEL, 120, 2, 0, 0, 0, 0, {0}, {0}},
     /* and sends it again under the same serial; that the cancelled one has come of age by now is no departure */
-    {FENNELRAKE_MESSAGE, 121, 2, 0, 0, 2, {5, 9}, {1, 1}},
+    {FENNELRAKE_MESSAGE, 121, 2, 0, 0, 0, 2, {5, 9}, {1, 1}},
+    /* a vital message of the same score, and then a routine one, which is the latest: the vital one stays first, but in the postings the latest is */
+    {FENNELRAKE_URGENT_MESSAGE, 122, 5, FENNELRAKE_VITAL, 0, 0, 2, {5, 9}, {1, 1}},
+    {FENNELRAKE_MESSAGE, 123, 6, 0, 0, 0, 2, {5, 9}, {1, 1}},
 };
 
 /* Writes a frame into out. Returns its length, or ends the program: fields that can't be written are a mistake in the table above. */
@@ -53,8 +56,8 @@ static size_t write_frame(const struct fields *f, uint8_t *out, size_t out_lengt
 
     for (i = 0; i < FENNELRAKE_MOST_PAIRS; i++)
         fennelrake_put_term(terms, i, f->terms[i]);
-    written = fennelrake_write(f->kind, f->time, f->serial, f->number, f->k, f->pairs, terms, sizeof terms, f->amounts, sizeof f->amounts, out,
-                               out_length);
+    written = fennelrake_write(f->kind, f->time, f->serial, f->urgency, f->number, f->k, f->pairs, terms, sizeof terms, f->amounts,
+                               sizeof f->amounts, out, out_length);
     if (fennelrake_number(written) != FENNELRAKE_ACCEPTED) {
         fprintf(stderr, "host: the writer refuses a frame as %u\n", fennelrake_number(written));
         exit(1);

@@ -65,7 +65,16 @@ enum {
     FENNELRAKE_TICK = 2,
     FENNELRAKE_REGISTER = 3,
     FENNELRAKE_DROP = 4,
-    FENNELRAKE_CANCEL = 5
+    FENNELRAKE_CANCEL = 5,
+    FENNELRAKE_URGENT_MESSAGE = 6         /* a message that says its urgency; FENNELRAKE_MESSAGE means a routine one */
+};
+
+/* ---- urgencies of a message: among equal scores the more urgent one stands first */
+
+enum {
+    FENNELRAKE_ROUTINE = 0,
+    FENNELRAKE_IMPORTANT = 1,
+    FENNELRAKE_VITAL = 2
 };
 
 /* ---- what a call returns */
@@ -73,7 +82,7 @@ enum {
 enum {
     FENNELRAKE_ACCEPTED = 0,
     FENNELRAKE_REFUSED_SHORT = 1,         /* a frame of fewer than 5 bytes */
-    FENNELRAKE_REFUSED_KIND = 2,          /* the kind is none of the five */
+    FENNELRAKE_REFUSED_KIND = 2,          /* the kind is none of the six */
     FENNELRAKE_REFUSED_LENGTH = 3,        /* a frame longer or shorter than its fields need */
     FENNELRAKE_REFUSED_FILL = 4,          /* a bit after the frame's last field is one */
     FENNELRAKE_REFUSED_VALUE = 5,         /* a count or weight of 0; in writer and readings a value outside its range */
@@ -84,7 +93,8 @@ enum {
     FENNELRAKE_REFUSED_NOT_IN_USE = 10,   /* a drop or reading of a number not in use, numbers above 31 included */
     FENNELRAKE_REFUSED_START = 11,        /* N or T outside its range */
     FENNELRAKE_REFUSED_MEMORY = 12,       /* state memory not of its length, or output shorter than needed */
-    FENNELRAKE_REFUSED_NOT_IN_FORCE = 13  /* a cancellation with a serial that no message in force has */
+    FENNELRAKE_REFUSED_NOT_IN_FORCE = 13, /* a cancellation with a serial that no message in force has */
+    FENNELRAKE_REFUSED_URGENCY = 14       /* an urgency of 3; in the writer any above 2 */
 };
 
 /* ---- the calls */
@@ -117,13 +127,14 @@ uint32_t fennelrake_start(uint8_t *state, size_t state_length, uint32_t capacity
  * Refusals, in this order; a refused frame doesn't move the clock:
  *   12  state_length is not FENNELRAKE_STATE_SIZE, or answer_length is below FENNELRAKE_FRAME_ANSWER_SIZE
  *    1  fewer than 5 bytes
- *    2  a kind other than the five
+ *    2  a kind other than the six
  *    3  not as many bytes as the fields need, or too few to tell
  *    4  a bit after the last field is one
+ *   14  in an urgent message, the urgency is 3
  *    5  a count or a weight, of any pair, is 0
  *    6  terms don't rise
  *    7  the time is below the clock
- *    8  in a message, the serial is that of one in force at the frame's time, even of one that would leave for N
+ *    8  in a message of either kind, the serial is that of one in force at the frame's time, even of one that would leave for N
  *   13  in a cancellation, the serial is that of none in force at the frame's time
  *    9  the number to register is in use
  *   10  the number to drop isn't in use
@@ -134,12 +145,14 @@ uint32_t fennelrake_start(uint8_t *state, size_t state_length, uint32_t capacity
  *   register  4 kind (3), 32 time, 5 number, 4 k less one, 3 pairs less one, then for each pair 10 term, 4 weight
  *   drop      4 kind (4), 32 time, 5 number
  *   cancel    4 kind (5), 32 time, 20 serial
+ *   urgent    4 kind (6), 32 time, 20 serial, 2 urgency, 4 pairs less one, then for each pair 10 term, 8 count
  */
 uint32_t fennelrake_frame(uint8_t *state, size_t state_length, const uint8_t *bytes, size_t bytes_length, uint8_t *answer, size_t answer_length);
 
 /*
- * Reads the list of query `number`: the k best messages in force of positive score, or all where fewer have one; higher scores first, and among
- * equal ones the later message. The score is the sum, over the query's terms, of weight times the term's impact in the message.
+ * Reads the list of query `number`: the k best messages in force of positive score, or all where fewer have one; higher scores first, among equal
+ * ones the more urgent message, and among equally urgent ones the later. The score is the sum, over the query's terms, of weight times the term's
+ * impact in the message; the urgency is no part of it, nor of the answer.
  *
  * Writes FENNELRAKE_LIST_ANSWER_SIZE bytes: how many entries there are, 16 serials, 16 scores. Places past the entries are 0. The state isn't
  * written.
@@ -151,8 +164,9 @@ uint32_t fennelrake_frame(uint8_t *state, size_t state_length, const uint8_t *by
 uint32_t fennelrake_list(const uint8_t *state, size_t state_length, uint32_t number, uint8_t *answer, size_t answer_length);
 
 /*
- * Reads the postings of a term: the messages in force that have it, higher impacts first, and among equal ones the later message. The impact of a
- * term with count f in a message whose counts squared sum to n is the greatest whole w with w * w * n at most (1000 * f) * (1000 * f).
+ * Reads the postings of a term: the messages in force that have it, higher impacts first, and among equal ones the later message, however urgent
+ * they are. The impact of a term with count f in a message whose counts squared sum to n is the greatest whole w with w * w * n at most
+ * (1000 * f) * (1000 * f).
  *
  * Writes FENNELRAKE_POSTING_SIZE bytes for each posting: serial and impact. The state isn't written. FENNELRAKE_POSTINGS_SIZE bytes are always
  * enough; with fewer, it depends on how many postings there are.
@@ -168,11 +182,12 @@ uint64_t fennelrake_postings(const uint8_t *state, size_t state_length, uint32_t
 
 /*
  * Writes the frame with these fields into out. Only the fields of the kind are looked at:
- *   FENNELRAKE_MESSAGE   time, serial, pairs, terms, amounts (counts)
- *   FENNELRAKE_TICK      time
- *   FENNELRAKE_REGISTER  time, number, k, pairs, terms, amounts (weights)
- *   FENNELRAKE_DROP      time, number
- *   FENNELRAKE_CANCEL    time, serial
+ *   FENNELRAKE_MESSAGE         time, serial, pairs, terms, amounts (counts)
+ *   FENNELRAKE_TICK            time
+ *   FENNELRAKE_REGISTER        time, number, k, pairs, terms, amounts (weights)
+ *   FENNELRAKE_DROP            time, number
+ *   FENNELRAKE_CANCEL          time, serial
+ *   FENNELRAKE_URGENT_MESSAGE  time, serial, urgency, pairs, terms, amounts (counts)
  * The others may be anything; slices that aren't looked at may be null with length 0.
  *
  * Terms are two bytes each, the higher byte first (fennelrake_put_term puts one); amounts are one byte each. The first `pairs` of both are the
@@ -182,14 +197,15 @@ uint64_t fennelrake_postings(const uint8_t *state, size_t state_length, uint32_t
  * bytes. No engine is asked: whether time, serial and number suit one is judged when the frame is handed to it.
  *
  * Refusals, in this order:
- *    2  a kind other than the five
+ *    2  a kind other than the six
+ *   14  an urgency above 2
  *    5  a value outside its range: serial above 1048575; number above 31; k not 1 to 16; pairs not 1 to 16 in a message or 1 to 8 in a
  *       registration, or more than the terms or the amounts lent (a last odd byte of terms is no term); and in any pair a term above 1023, a
  *       count of 0, a weight not 1 to 15. A time may be any number.
  *    6  terms don't rise
  *   12  out_length is below the frame's length; FENNELRAKE_LONGEST_FRAME bytes are always enough
  */
-uint64_t fennelrake_write(uint32_t kind, uint32_t time, uint32_t serial, uint32_t number, uint32_t k, uint32_t pairs,
+uint64_t fennelrake_write(uint32_t kind, uint32_t time, uint32_t serial, uint32_t urgency, uint32_t number, uint32_t k, uint32_t pairs,
                           const uint8_t *terms, size_t terms_length, const uint8_t *amounts, size_t amounts_length,
                           uint8_t *out, size_t out_length);
 

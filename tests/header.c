@@ -40,17 +40,18 @@ static int untouched(const uint8_t *bytes, size_t length)
     return 1;
 }
 
-/* Terms 0, 1, 2 .. and amounts of 1, more than any frame has. */
+/* Terms 0, 1, 2 .. and amounts of 1, more than any frame has; and an urgency, which only urgent messages have. */
 enum { PLENTY = 20 };
 static uint8_t terms[2 * PLENTY], amounts[PLENTY];
+static uint32_t urgency = UINT32_MAX;
 
 static uint8_t *state, *frame, *reply, *list, *postings;
 static size_t frame_length;
 
-/* Writes a frame with the terms and amounts above. Returns the writer's number. */
+/* Writes a frame with the terms, amounts and urgency above. Returns the writer's number. */
 static uint32_t written(uint32_t kind, uint32_t time, uint32_t serial, uint32_t number, uint32_t k, uint32_t pairs)
 {
-    uint64_t r = fennelrake_write(kind, time, serial, number, k, pairs, terms, sizeof terms, amounts, sizeof amounts, frame,
+    uint64_t r = fennelrake_write(kind, time, serial, urgency, number, k, pairs, terms, sizeof terms, amounts, sizeof amounts, frame,
                                   FENNELRAKE_LONGEST_FRAME);
 
     frame_length = fennelrake_size(r);
@@ -134,7 +135,7 @@ static void frames(void)
     frame_length = sizeof tick;
     frame[4] = 0x81;
     EXPECT(handed(), FENNELRAKE_REFUSED_FILL);
-    frame[0] = (FENNELRAKE_CANCEL + 1) << 4;
+    frame[0] = (FENNELRAKE_URGENT_MESSAGE + 1) << 4;
     EXPECT(handed(), FENNELRAKE_REFUSED_KIND);
 
     /* two pairs: the first count's last bit is bit 77, and the second term's bit 87 */
@@ -144,6 +145,18 @@ static void frames(void)
     EXPECT(written(FENNELRAKE_MESSAGE, 0, 0, 0, 0, 2), FENNELRAKE_ACCEPTED);
     frame[10] = (uint8_t)(frame[10] & ~0x01);
     EXPECT(handed(), FENNELRAKE_REFUSED_ORDER);
+
+    /* an urgent one of one pair: byte 7 begins with its urgency, and byte 9 is the count */
+    urgency = FENNELRAKE_VITAL;
+    EXPECT(written(FENNELRAKE_URGENT_MESSAGE, 0, 0, 0, 0, 1), FENNELRAKE_ACCEPTED);
+    EXPECT(frame[0] >> 4, FENNELRAKE_URGENT_MESSAGE);
+    EXPECT(frame[7] >> 6, FENNELRAKE_VITAL);
+    frame[7] = 0xc0;
+    EXPECT(handed(), FENNELRAKE_REFUSED_URGENCY);
+    frame[9] = 0;
+    EXPECT(handed(), FENNELRAKE_REFUSED_URGENCY);
+    frame[7] = 0x80;
+    EXPECT(handed(), FENNELRAKE_REFUSED_VALUE);
 }
 
 static void writing(void)
@@ -151,7 +164,15 @@ static void writing(void)
     uint64_t r;
 
     EXPECT(written(0, 0, 0, 0, 0, 0), FENNELRAKE_REFUSED_KIND);
-    EXPECT(written(FENNELRAKE_CANCEL + 1, 0, FENNELRAKE_SERIALS, 0, 0, 0), FENNELRAKE_REFUSED_KIND);
+    urgency = FENNELRAKE_VITAL + 1;
+    EXPECT(written(FENNELRAKE_URGENT_MESSAGE + 1, 0, FENNELRAKE_SERIALS, 0, 0, 0), FENNELRAKE_REFUSED_KIND);
+    EXPECT(written(FENNELRAKE_URGENT_MESSAGE, 0, FENNELRAKE_SERIALS, 0, 0, 0), FENNELRAKE_REFUSED_URGENCY);
+    urgency = FENNELRAKE_VITAL;
+    EXPECT(written(FENNELRAKE_URGENT_MESSAGE, 0, FENNELRAKE_SERIALS, 0, 0, 1), FENNELRAKE_REFUSED_VALUE);
+    EXPECT(written(FENNELRAKE_URGENT_MESSAGE, 0, 0, 0, 0, FENNELRAKE_MOST_PAIRS + 1), FENNELRAKE_REFUSED_VALUE);
+    EXPECT(written(FENNELRAKE_URGENT_MESSAGE, UINT32_MAX, FENNELRAKE_SERIALS - 1, 0, 0, FENNELRAKE_MOST_PAIRS), FENNELRAKE_ACCEPTED);
+    EXPECT(frame_length, FENNELRAKE_LONGEST_FRAME);
+    urgency = UINT32_MAX;
     EXPECT(written(FENNELRAKE_MESSAGE, 0, FENNELRAKE_SERIALS, 0, 0, 1), FENNELRAKE_REFUSED_VALUE);
     EXPECT(written(FENNELRAKE_MESSAGE, 0, 0, 0, 0, 0), FENNELRAKE_REFUSED_VALUE);
     EXPECT(written(FENNELRAKE_MESSAGE, 0, 0, 0, 0, FENNELRAKE_MOST_PAIRS + 1), FENNELRAKE_REFUSED_VALUE);
@@ -191,18 +212,19 @@ static void writing(void)
     amounts[1] = 1;
 
     /* lengths lent: two bytes for each term, an odd one being no term; one for each amount; as many for the frame as it takes */
-    EXPECT(fennelrake_number(fennelrake_write(FENNELRAKE_MESSAGE, 0, 0, 0, 0, 2, terms, 3, amounts, 2, frame, FENNELRAKE_LONGEST_FRAME)),
+    EXPECT(fennelrake_number(fennelrake_write(FENNELRAKE_MESSAGE, 0, 0, 0, 0, 0, 2, terms, 3, amounts, 2, frame, FENNELRAKE_LONGEST_FRAME)),
            FENNELRAKE_REFUSED_VALUE);
-    EXPECT(fennelrake_number(fennelrake_write(FENNELRAKE_MESSAGE, 0, 0, 0, 0, 2, terms, 4, amounts, 1, frame, FENNELRAKE_LONGEST_FRAME)),
+    EXPECT(fennelrake_number(fennelrake_write(FENNELRAKE_MESSAGE, 0, 0, 0, 0, 0, 2, terms, 4, amounts, 1, frame, FENNELRAKE_LONGEST_FRAME)),
            FENNELRAKE_REFUSED_VALUE);
-    r = fennelrake_write(FENNELRAKE_MESSAGE, 0, 0, 0, 0, 2, terms, 4, amounts, 2, frame, FENNELRAKE_LONGEST_FRAME);
+    r = fennelrake_write(FENNELRAKE_MESSAGE, 0, 0, 0, 0, 0, 2, terms, 4, amounts, 2, frame, FENNELRAKE_LONGEST_FRAME);
     EXPECT(r, 12);
     memset(frame, 0xa5, FENNELRAKE_LONGEST_FRAME);
-    r = fennelrake_write(FENNELRAKE_MESSAGE, 0, 0, 0, 0, 2, terms, 4, amounts, 2, frame, 11);
+    r = fennelrake_write(FENNELRAKE_MESSAGE, 0, 0, 0, 0, 0, 2, terms, 4, amounts, 2, frame, 11);
     EXPECT(fennelrake_number(r), FENNELRAKE_REFUSED_MEMORY);
     EXPECT(fennelrake_size(r), 0);
     EXPECT(untouched(frame, FENNELRAKE_LONGEST_FRAME), 1);
-    r = fennelrake_write(FENNELRAKE_TICK, 0, FENNELRAKE_SERIALS, FENNELRAKE_QUERIES, 0, 0, NULL, 0, NULL, 0, frame, FENNELRAKE_LONGEST_FRAME);
+    r = fennelrake_write(FENNELRAKE_TICK, 0, FENNELRAKE_SERIALS, UINT32_MAX, FENNELRAKE_QUERIES, 0, 0, NULL, 0, NULL, 0, frame,
+                         FENNELRAKE_LONGEST_FRAME);
     EXPECT(r, 5);
     EXPECT(untouched(frame + 5, FENNELRAKE_LONGEST_FRAME - 5), 1);
 }
@@ -272,6 +294,30 @@ static void passage(void)
     EXPECT(fennelrake_departures(reply), 0);
 }
 
+/* A message of each urgency, the most urgent first, and all of one score: the list keeps that order, and the postings turn it round. */
+static void urgencies(void)
+{
+    static const uint32_t grades[] = {FENNELRAKE_VITAL, FENNELRAKE_IMPORTANT, FENNELRAKE_ROUTINE};
+    const uint16_t term = 7;
+    uint32_t i;
+
+    fennelrake_put_term(terms, 0, term);
+    EXPECT(fennelrake_start(state, FENNELRAKE_STATE_SIZE, 3, 1000), FENNELRAKE_ACCEPTED);
+    EXPECT(fed(FENNELRAKE_REGISTER, 0, 0, 0, 3, 1), FENNELRAKE_ACCEPTED);
+    for (i = 0; i < 3; i++) {
+        urgency = grades[i];
+        EXPECT(fed(FENNELRAKE_URGENT_MESSAGE, 0, i, 0, 0, 1), FENNELRAKE_ACCEPTED);
+    }
+    EXPECT(fed(FENNELRAKE_URGENT_MESSAGE, 0, 0, 0, 0, 1), FENNELRAKE_REFUSED_SERIAL);
+    EXPECT(fennelrake_list(state, FENNELRAKE_STATE_SIZE, 0, list, FENNELRAKE_LIST_ANSWER_SIZE), FENNELRAKE_ACCEPTED);
+    EXPECT(fennelrake_list_count(list), 3);
+    EXPECT(fennelrake_postings(state, FENNELRAKE_STATE_SIZE, term, postings, FENNELRAKE_POSTINGS_SIZE), 3);
+    for (i = 0; i < 3; i++) {
+        EXPECT(fennelrake_list_serial(list, i), i);
+        EXPECT(fennelrake_posting_serial(postings, i), 2 - i);
+    }
+}
+
 int main(void)
 {
     unsigned i;
@@ -291,6 +337,7 @@ int main(void)
     frames();
     writing();
     passage();
+    urgencies();
     free(state);
     free(frame);
     free(reply);

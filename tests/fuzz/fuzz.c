@@ -145,7 +145,7 @@ static uint64_t postings(uint32_t term, size_t room)
 
 enum { CLOCK = 2, OLDEST = 3, COUNT = 4, SLOTS = 5, SLOT = 19, PLACES = 257, RECORDS = 4888, RECORD = 60 };
 enum { TIME = 0, SERIAL = 1, CELLS = 2, CELL = 3 };
-enum { K = 0, N = 1, TERM = 2, ENTRIES = 10, THRESHOLD = 11, LISTED = 19, SCORE = 35, CANDIDATES = 51 };
+enum { K = 0, N = 1, TERM = 2, ENTRIES = 10, THRESHOLD = 11, LISTED = 19, KEY = 35, CANDIDATES = 51 };
 
 static uint8_t old[FENNELRAKE_STATE_SIZE]; /* the state before the frame */
 
@@ -166,10 +166,21 @@ static const uint8_t *message(const uint8_t *s, uint32_t i)
     return slot(s, word(s, OLDEST) + i);
 }
 
+/* A message's number of cells, and its urgency, which stands above it. */
+static uint32_t cells(const uint8_t *m)
+{
+    return word(m, CELLS) % 64;
+}
+
+static uint32_t grade(const uint8_t *m)
+{
+    return word(m, CELLS) / 64;
+}
+
 /* A cancelled message has no cells, and a serial that no frame can say. */
 static int cancelled(const uint8_t *m)
 {
-    return word(m, CELLS) == 0 && word(m, SERIAL) >= FENNELRAKE_SERIALS;
+    return cells(m) == 0 && word(m, SERIAL) >= FENNELRAKE_SERIALS;
 }
 
 static const uint8_t *record(const uint8_t *s, uint32_t q)
@@ -180,7 +191,7 @@ static const uint8_t *record(const uint8_t *s, uint32_t q)
 static uint32_t impact(const uint8_t *m, uint32_t term)
 {
     uint32_t i;
-    for (i = 0; i < word(m, CELLS); i++)
+    for (i = 0; i < cells(m); i++)
         if (word(m, CELL + i) >> 22 == term)
             return word(m, CELL + i) & 16383;
     return 0;
@@ -192,6 +203,12 @@ static uint32_t score(const uint8_t *m, const uint8_t *r)
     for (i = 0; i < word(r, N); i++)
         sum += word(r, TERM + i) % 16 * impact(m, word(r, TERM + i) / 16);
     return sum;
+}
+
+/* What a list is ordered by, before the order of acceptance: the score, and among equal ones the urgency. A record keeps it of each entry. */
+static uint32_t key(const uint8_t *m, const uint8_t *r)
+{
+    return 4 * score(m, r) + grade(m);
 }
 
 static int exceeds(const uint8_t *m, const uint8_t *r)
@@ -212,6 +229,17 @@ static uint32_t bits(const uint8_t *bytes, size_t at, size_t width)
     for (i = at; i < at + width; i++)
         v = v << 1 | (bytes[i / 8] >> (7 - i % 8) & 1);
     return v;
+}
+
+/* Both kinds of message; where the number of pairs stands in their bits, the pairs following it. */
+static int is_message(uint32_t kind)
+{
+    return kind == FENNELRAKE_MESSAGE || kind == FENNELRAKE_URGENT_MESSAGE;
+}
+
+static uint32_t size_at(uint32_t kind)
+{
+    return kind == FENNELRAKE_URGENT_MESSAGE ? 58 : 56;
 }
 
 /* How many of the messages before the frame are past at its time: they are the oldest. */
@@ -235,7 +263,7 @@ static uint32_t holder(const uint8_t *f)
 /* The messages that fill a place: the same as before, less those that left, one that arrived, and one cancelled. Returns how many left. */
 static uint32_t check_window(const uint8_t *s, const uint8_t *f, uint32_t departures)
 {
-    uint32_t kind = f[0] >> 4, time = bits(f, 4, 32), count = word(s, COUNT), held = word(old, COUNT), arrived = kind == FENNELRAKE_MESSAGE;
+    uint32_t kind = f[0] >> 4, time = bits(f, 4, 32), count = word(s, COUNT), held = word(old, COUNT), arrived = is_message(kind);
     uint32_t i, j, left, in_force = 0, off = held;
 
     HOLD(word(s, 0) == word(old, 0) && word(s, 1) == word(old, 1));
@@ -254,7 +282,8 @@ static uint32_t check_window(const uint8_t *s, const uint8_t *f, uint32_t depart
     for (i = left; i < held; i++) {
         const uint8_t *m = message(s, i - left), *was = message(old, i);
         if (i == off) {
-            HOLD(word(m, TIME) == word(was, TIME) && word(m, SERIAL) == word(was, SERIAL) + FENNELRAKE_SERIALS * word(was, CELLS) && cancelled(m));
+            HOLD(word(m, TIME) == word(was, TIME) && word(m, SERIAL) == word(was, SERIAL) + FENNELRAKE_SERIALS * cells(was));
+            HOLD(cancelled(m) && grade(m) == grade(was));
             HOLD(memcmp(m + 4 * CELL, was + 4 * CELL, 4 * (SLOT - CELL)) == 0);
         } else {
             HOLD(memcmp(m, was, 4 * SLOT) == 0);
@@ -265,14 +294,15 @@ static uint32_t check_window(const uint8_t *s, const uint8_t *f, uint32_t depart
             HOLD(cancelled(message(s, i)) || word(message(s, i), SERIAL) != word(message(s, j), SERIAL));
     if (arrived) {
         const uint8_t *m = message(s, count - 1);
+        uint32_t at = size_at(kind), first = at + 4;
         uint64_t n = 0, top, w;
-        HOLD(word(m, TIME) == time && word(m, SERIAL) == bits(f, 36, 20) && word(m, CELLS) == bits(f, 56, 4) + 1);
-        for (i = 0; i < word(m, CELLS); i++)
-            n += (uint64_t)bits(f, 70 + 18 * i, 8) * bits(f, 70 + 18 * i, 8);
-        for (i = 0; i < word(m, CELLS); i++) {
-            HOLD(word(m, CELL + i) >> 14 == bits(f, 60 + 18 * i, 18));
+        HOLD(word(m, TIME) == time && word(m, SERIAL) == bits(f, 36, 20) && cells(m) == bits(f, at, 4) + 1 && grade(m) == bits(f, 56, at - 56));
+        for (i = 0; i < cells(m); i++)
+            n += (uint64_t)bits(f, first + 18 * i + 10, 8) * bits(f, first + 18 * i + 10, 8);
+        for (i = 0; i < cells(m); i++) {
+            HOLD(word(m, CELL + i) >> 14 == bits(f, first + 18 * i, 18));
             w = word(m, CELL + i) & 16383;
-            top = UINT64_C(1000) * bits(f, 70 + 18 * i, 8);
+            top = UINT64_C(1000) * bits(f, first + 18 * i + 10, 8);
             HOLD(w * w * n <= top * top && (w + 1) * (w + 1) * n > top * top);
         }
     }
@@ -290,7 +320,7 @@ static void check_mark(const uint8_t *s, const uint8_t *f, uint32_t left, uint32
         reached |= exceeds(message(old, i), was);
     if (kind == FENNELRAKE_CANCEL)
         reached |= exceeds(message(old, holder(f)), was);
-    if (kind == FENNELRAKE_MESSAGE)
+    if (is_message(kind))
         reached |= exceeds(message(s, word(s, COUNT) - 1), was);
     HOLD(marked == (named || reached));
     HOLD(marked || memcmp(r, was, 4 * RECORD) == 0);
@@ -321,25 +351,25 @@ static void check_list(const uint8_t *s, uint32_t q)
     entries = fennelrake_list_count(answer.bytes);
     HOLD(entries == word(r, ENTRIES) && entries <= word(r, K) && word(r, K) <= FENNELRAKE_LIST_PLACES);
     for (i = 0; i < FENNELRAKE_LIST_PLACES; i++) {
-        HOLD(fennelrake_list_serial(answer.bytes, i) == word(r, LISTED + i) && fennelrake_list_score(answer.bytes, i) == word(r, SCORE + i));
+        HOLD(fennelrake_list_serial(answer.bytes, i) == word(r, LISTED + i) && fennelrake_list_score(answer.bytes, i) == word(r, KEY + i) / 4);
         if (i >= entries) {
-            HOLD(word(r, LISTED + i) == 0 && word(r, SCORE + i) == 0);
+            HOLD(word(r, LISTED + i) == 0 && word(r, KEY + i) == 0);
             continue;
         }
         for (j = 0; j < count && word(message(s, j), SERIAL) != word(r, LISTED + i);)
             j++;
-        HOLD(j < count && word(r, SCORE + i) == score(message(s, j), r) && word(r, SCORE + i) > 0);
-        HOLD(i == 0 || word(r, SCORE + i) < last || (word(r, SCORE + i) == last && j < last_at));
-        last = word(r, SCORE + i);
+        HOLD(j < count && word(r, KEY + i) == key(message(s, j), r) && score(message(s, j), r) > 0);
+        HOLD(i == 0 || word(r, KEY + i) < last || (word(r, KEY + i) == last && j < last_at));
+        last = word(r, KEY + i);
         last_at = j;
     }
     /* what isn't listed stands behind the last entry */
     for (j = 0; j < count; j++) {
-        uint32_t value = score(message(s, j), r), behind = value < last || (value == last && j < last_at);
-        positive += value > 0;
+        uint32_t scores = score(message(s, j), r) > 0, value = key(message(s, j), r), behind = value < last || (value == last && j < last_at);
+        positive += scores;
         for (i = 0; i < entries && word(message(s, j), SERIAL) != word(r, LISTED + i);)
             i++;
-        HOLD(value == 0 || i < entries || (entries == word(r, K) && behind));
+        HOLD(!scores || i < entries || (entries == word(r, K) && behind));
     }
     HOLD(entries == (positive < word(r, K) ? positive : word(r, K)));
 }
@@ -356,7 +386,7 @@ static void check_thresholds(const uint8_t *s, uint32_t q)
     for (i = 0; i < n; i++)
         sum += word(r, TERM + i) % 16 * word(r, THRESHOLD + i);
     for (i = 0; i < FENNELRAKE_MOST_QUERY_TERMS; i++) {
-        uint32_t h = word(r, THRESHOLD + i), last = entries > 0 ? word(r, SCORE + entries - 1) : 0;
+        uint32_t h = word(r, THRESHOLD + i), last = entries > 0 ? word(r, KEY + entries - 1) / 4 : 0;
         if (i >= n || entries < word(r, K)) {
             HOLD(h == 0);
         } else {
@@ -398,13 +428,15 @@ static void check_postings(const uint8_t *s, uint32_t term)
 /* The writer makes the same bytes of the frame's fields, into exactly as many, whatever they held. */
 static void check_writer(const uint8_t *f, size_t length)
 {
-    uint32_t kind = f[0] >> 4, pairs = 0, width = 8, first = 60, i, k = 0, number = 0, serial = 0;
+    uint32_t kind = f[0] >> 4, time = bits(f, 4, 32), pairs = 0, width = 8, first = size_at(kind) + 4, i, k = 0, number = 0, serial = 0, urgency = 0;
     uint64_t r;
 
-    if (kind == FENNELRAKE_MESSAGE || kind == FENNELRAKE_CANCEL)
+    if (is_message(kind) || kind == FENNELRAKE_CANCEL)
         serial = bits(f, 36, 20);
-    if (kind == FENNELRAKE_MESSAGE) {
-        pairs = bits(f, 56, 4) + 1;
+    if (kind == FENNELRAKE_URGENT_MESSAGE)
+        urgency = bits(f, 56, 2);
+    if (is_message(kind)) {
+        pairs = bits(f, size_at(kind), 4) + 1;
     } else if (kind == FENNELRAKE_REGISTER) {
         k = bits(f, 41, 4) + 1;
         pairs = bits(f, 45, 3) + 1;
@@ -420,10 +452,10 @@ static void check_writer(const uint8_t *f, size_t length)
         amounts.bytes[i] = (uint8_t)bits(f, first + (10 + width) * i + 10, width);
     }
     lend(&answer, length, FRESH);
-    r = fennelrake_write(kind, bits(f, 4, 32), serial, number, k, pairs, terms.bytes, 2 * pairs, amounts.bytes, pairs, answer.bytes, length);
+    r = fennelrake_write(kind, time, serial, urgency, number, k, pairs, terms.bytes, 2 * pairs, amounts.bytes, pairs, answer.bytes, length);
     HOLD(r == length && memcmp(answer.bytes, f, length) == 0);
     lend(&answer, length - 1, FRESH);
-    r = fennelrake_write(kind, bits(f, 4, 32), serial, number, k, pairs, terms.bytes, 2 * pairs, amounts.bytes, pairs, answer.bytes, length - 1);
+    r = fennelrake_write(kind, time, serial, urgency, number, k, pairs, terms.bytes, 2 * pairs, amounts.bytes, pairs, answer.bytes, length - 1);
     HOLD(r == (uint64_t)FENNELRAKE_REFUSED_MEMORY << 32 && all_of(answer.bytes, length - 1, FRESH));
     guarded(&answer);
     guarded(&terms);
@@ -434,7 +466,7 @@ static void check_writer(const uint8_t *f, size_t length)
 static void check_any_fields(const uint8_t *f, size_t length)
 {
     size_t n = length < 12 ? 0 : (length - 12) / 3, room, i;
-    uint32_t kind, time, serial, number, k, pairs, found, size;
+    uint32_t kind, time, serial, urgency, number, k, pairs, found, size;
     uint64_t r;
 
     if (n == 0)
@@ -442,6 +474,7 @@ static void check_any_fields(const uint8_t *f, size_t length)
     kind = f[0] % 8;
     time = fennelrake_word(f + 4);
     serial = fennelrake_word(f) >> (f[8] % 32);
+    urgency = f[8] / 40;
     number = f[8] % 40;
     k = f[9] % 20;
     pairs = f[10] % 20;
@@ -453,31 +486,34 @@ static void check_any_fields(const uint8_t *f, size_t length)
     for (i = 0; i < n; i++)
         terms.bytes[2 * i] %= 5;
     lend(&answer, room, FRESH);
-    r = fennelrake_write(kind, time, serial, number, k, pairs, terms.bytes, 2 * n, amounts.bytes, n, answer.bytes, room);
+    r = fennelrake_write(kind, time, serial, urgency, number, k, pairs, terms.bytes, 2 * n, amounts.bytes, n, answer.bytes, room);
     guarded(&answer);
     guarded(&terms);
     guarded(&amounts);
     found = fennelrake_number(r);
     size = fennelrake_size(r);
     seen(8, found * 8 + kind);
-    HOLD(found == 0 || ((found == 2 || found == 5 || found == 6 || found == 12) && size == 0));
-    HOLD((found == FENNELRAKE_REFUSED_KIND) == (kind < FENNELRAKE_MESSAGE || kind > FENNELRAKE_CANCEL));
+    HOLD(found == 0 || ((found == 2 || found == 14 || found == 5 || found == 6 || found == 12) && size == 0));
+    HOLD((found == FENNELRAKE_REFUSED_KIND) == (kind < FENNELRAKE_MESSAGE || kind > FENNELRAKE_URGENT_MESSAGE));
+    HOLD((found == FENNELRAKE_REFUSED_URGENCY) == (kind == FENNELRAKE_URGENT_MESSAGE && urgency > FENNELRAKE_VITAL));
     HOLD(size <= room && all_of(answer.bytes + size, room - size, FRESH));
     if (found != 0)
         return;
     HOLD(bits(answer.bytes, 0, 4) == kind && bits(answer.bytes, 4, 32) == time);
-    if (kind == FENNELRAKE_MESSAGE || kind == FENNELRAKE_CANCEL)
+    if (is_message(kind) || kind == FENNELRAKE_CANCEL)
         HOLD(bits(answer.bytes, 36, 20) == serial);
-    if (kind == FENNELRAKE_MESSAGE)
-        HOLD(bits(answer.bytes, 56, 4) + 1 == pairs);
+    if (kind == FENNELRAKE_URGENT_MESSAGE)
+        HOLD(bits(answer.bytes, 56, 2) == urgency);
+    if (is_message(kind))
+        HOLD(bits(answer.bytes, size_at(kind), 4) + 1 == pairs);
     if (kind == FENNELRAKE_REGISTER)
         HOLD(bits(answer.bytes, 41, 4) + 1 == k && bits(answer.bytes, 45, 3) + 1 == pairs);
     if (kind == FENNELRAKE_REGISTER || kind == FENNELRAKE_DROP)
         HOLD(bits(answer.bytes, 36, 5) == number);
-    for (i = 0; i < pairs && (kind == FENNELRAKE_MESSAGE || kind == FENNELRAKE_REGISTER); i++) {
-        size_t at = kind == FENNELRAKE_MESSAGE ? 60 + 18 * i : 48 + 14 * i;
+    for (i = 0; i < pairs && (is_message(kind) || kind == FENNELRAKE_REGISTER); i++) {
+        size_t at = is_message(kind) ? size_at(kind) + 4 + 18 * i : 48 + 14 * i;
         HOLD(i < n && bits(answer.bytes, at, 10) == terms.bytes[2 * i] * 256u + terms.bytes[2 * i + 1]);
-        HOLD(bits(answer.bytes, at + 10, kind == FENNELRAKE_MESSAGE ? 8 : 4) == amounts.bytes[i]);
+        HOLD(bits(answer.bytes, at + 10, is_message(kind) ? 8 : 4) == amounts.bytes[i]);
     }
 }
 
@@ -499,11 +535,14 @@ static uint32_t checked_frame(const uint8_t *f, size_t length)
     HOLD(all_of(answer.bytes, answer.length, FRESH) && memcmp(old, state.bytes, state.length) == 0);
 
     number = hand(f, length, FENNELRAKE_FRAME_ANSWER_SIZE);
-    HOLD(number <= FENNELRAKE_REFUSED_NOT_IN_USE || number == FENNELRAKE_REFUSED_NOT_IN_FORCE);
+    HOLD(number <= FENNELRAKE_REFUSED_NOT_IN_USE || number == FENNELRAKE_REFUSED_NOT_IN_FORCE || number == FENNELRAKE_REFUSED_URGENCY);
     HOLD((number == FENNELRAKE_REFUSED_SHORT) == (length < 5));
-    HOLD(length < 5 || (number == FENNELRAKE_REFUSED_KIND) == (kind < FENNELRAKE_MESSAGE || kind > FENNELRAKE_CANCEL));
+    HOLD(length < 5 || (number == FENNELRAKE_REFUSED_KIND) == (kind < FENNELRAKE_MESSAGE || kind > FENNELRAKE_URGENT_MESSAGE));
+    /* a frame that 1 to 4 let pass is whole: its urgency is one of the three, or is what refuses it */
+    if (number == 0 || number > FENNELRAKE_REFUSED_FILL)
+        HOLD((number == FENNELRAKE_REFUSED_URGENCY) == (kind == FENNELRAKE_URGENT_MESSAGE && bits(f, 56, 2) > FENNELRAKE_VITAL));
     if (number == FENNELRAKE_REFUSED_SERIAL)
-        HOLD(kind == FENNELRAKE_MESSAGE && bits(f, 4, 32) >= word(old, CLOCK) && holder(f) < word(old, COUNT));
+        HOLD(is_message(kind) && bits(f, 4, 32) >= word(old, CLOCK) && holder(f) < word(old, COUNT));
     if (number == FENNELRAKE_REFUSED_NOT_IN_FORCE)
         HOLD(kind == FENNELRAKE_CANCEL && length == 7 && bits(f, 4, 32) >= word(old, CLOCK) && holder(f) == word(old, COUNT));
     seen(0, number * 16 + kind);
@@ -587,12 +626,12 @@ void passage(const uint8_t *data, size_t size)
 
 /*
  * Puts a value into a word of the state memory. The words that steer a loop are few: those at the start, and the first of a slot and a record. Some
- * values are about the serial words of cancelled messages.
+ * values are about the serial words of cancelled messages, and some about sizes with an urgency above them.
  */
 static void damage(int steering, const uint8_t *how)
 {
-    static const uint32_t values[] = {0, 1, 8, 9, 15, 16, 17, 255, 256, 257, 1000, 65535, 0xfffff, 0x100000, 0x1000000, 0x1100000,
-                                      0x7fffffff, 0x80000000, 0xfffffffe, 0xffffffff};
+    static const uint32_t values[] = {0, 1, 8, 9, 15, 16, 17, 64, 80, 145, 192, 209, 255, 256, 257, 1000, 65535, 0xfffff, 0x100000, 0x1000000,
+                                      0x1100000, 0x7fffffff, 0x80000000, 0xfffffffe, 0xffffffff};
     uint32_t i = (how[0] * 256u + how[1]) % (FENNELRAKE_STATE_SIZE / 4), value = values[how[2] % (sizeof values / sizeof values[0])], j;
 
     if (steering && how[0] < 64)

@@ -36,33 +36,44 @@ static void put(uint32_t byte)
 
 static uint32_t sent[8]; /* serials of the messages put last */
 static size_t messages;
+static int alike; /* whether messages and queries have one and the same term, so that scores are equal */
 
 /*
  * A frame after its length: few terms, serials and queries, so that much is shared; one in eight is damaged. As many cancel a message as send one,
- * mostly one of the last; some send one of these serials again.
+ * mostly one of the last; some send one of these serials again. Half of the messages say an urgency, and a few of them one that there isn't, be the
+ * first count 0 or not.
  */
 static void put_frame(uint32_t *clock, uint32_t life)
 {
     uint8_t terms[2 * FENNELRAKE_MOST_PAIRS], amounts[FENNELRAKE_MOST_PAIRS], frame[FENNELRAKE_LONGEST_FRAME + 1] = {0};
     uint32_t kind = below(13), time, serial, number, k, most, pairs = 0, apart = below(4) == 0 ? 120 : 6, term, length, i;
+    int is_message = kind > 2 && kind < 8;
 
-    kind = kind > 7 ? FENNELRAKE_CANCEL : kind > 2 ? FENNELRAKE_MESSAGE : kind + 2;
-    most = kind == FENNELRAKE_MESSAGE ? FENNELRAKE_MOST_PAIRS : FENNELRAKE_MOST_QUERY_TERMS;
+    kind = kind > 7 ? FENNELRAKE_CANCEL : !is_message ? kind + 2 : below(2) == 0 ? FENNELRAKE_MESSAGE : FENNELRAKE_URGENT_MESSAGE;
+    most = is_message ? FENNELRAKE_MOST_PAIRS : FENNELRAKE_MOST_QUERY_TERMS;
     for (term = below(apart); pairs < most && term < 3 * apart; term += 1 + below(apart)) {
         fennelrake_put_term(terms, pairs, (uint16_t)(term < 3 * apart - 1 ? term : FENNELRAKE_TERMS - 1));
-        amounts[pairs++] = (uint8_t)(1 + (below(16) == 0 && kind == FENNELRAKE_MESSAGE ? below(255) : below(4)));
+        amounts[pairs++] = (uint8_t)(1 + (below(16) == 0 && is_message ? below(255) : below(4)));
+    }
+    if (alike) {
+        fennelrake_put_term(terms, 0, 0);
+        pairs = 1;
     }
     *clock += below(24) == 0 ? life + below(2) : below(3);
     time = *clock - (below(32) == 0);
     serial = below(below(8) == 0 ? FENNELRAKE_SERIALS : 64);
     if (below(8) < (kind == FENNELRAKE_CANCEL ? 7 : 2))
         serial = sent[below(8)];
-    if (kind == FENNELRAKE_MESSAGE)
+    if (is_message)
         sent[messages++ % 8] = serial;
     number = below(below(3) == 0 ? FENNELRAKE_QUERIES : 6);
     k = 1 + below(below(3) == 0 ? FENNELRAKE_LIST_PLACES : 3);
     length = fennelrake_size(
-        fennelrake_write(kind, time, serial, number, k, pairs, terms, 2 * pairs, amounts, pairs, frame, FENNELRAKE_LONGEST_FRAME));
+        fennelrake_write(kind, time, serial, below(3), number, k, pairs, terms, 2 * pairs, amounts, pairs, frame, FENNELRAKE_LONGEST_FRAME));
+    if (kind == FENNELRAKE_URGENT_MESSAGE && below(16) == 0) {
+        frame[7] |= 0xc0;
+        frame[9] = (uint8_t)(frame[9] * below(2));
+    }
     if (below(16) == 0) {
         i = below(8 * length);
         frame[i / 8] ^= (uint8_t)(1 << i % 8);
@@ -122,6 +133,7 @@ static void make(int of_passage, uint32_t most, uint32_t seed, uint32_t i)
     below(2);
     memset(sent, 0, sizeof sent);
     messages = 0;
+    alike = below(4) == 0;
     (of_passage ? make_passage : make_foreign)(most);
 }
 

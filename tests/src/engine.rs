@@ -11,7 +11,7 @@ extern "C" {
     fn fennelrake_postings(state: *const u8, state_len: usize, term: u32, out: *mut u8, out_len: usize) -> u64;
     #[allow(clippy::too_many_arguments)]
     fn fennelrake_write(
-        kind: u32, time: u32, serial: u32, number: u32, k: u32, pairs: u32,
+        kind: u32, time: u32, serial: u32, urgency: u32, number: u32, k: u32, pairs: u32,
         terms: *const u8, terms_len: usize, amounts: *const u8, amounts_len: usize, out: *mut u8, out_len: usize,
     ) -> u64;
 }
@@ -115,7 +115,7 @@ pub mod raw {
         let (t, a) = (terms.clone(), amounts.clone());
         let (n, k, m) = (t.bytes().len(), a.bytes().len(), out.bytes().len());
         // SAFETY: as above
-        let r = unsafe { fennelrake_write(f.kind, f.time, f.serial, f.number, f.k, f.pairs, terms.at(), n, amounts.at(), k, out.at(), m) };
+        let r = unsafe { fennelrake_write(f.kind, f.time, f.serial, f.urgency, f.number, f.k, f.pairs, terms.at(), n, amounts.at(), k, out.at(), m) };
         out.check();
         terms.check();
         amounts.check();
@@ -196,6 +196,7 @@ pub struct Fields {
     pub kind: u32,
     pub time: u32,
     pub serial: u32,
+    pub urgency: u32,
     pub number: u32,
     pub k: u32,
     pub pairs: u32,
@@ -231,7 +232,7 @@ pub fn state_word(bytes: &[u8], i: usize) -> u32 {
 
 pub struct Slot {
     at: usize,
-    /// Its words before the cells: time, serial and size.
+    /// Its words before the cells: time, serial, and size with 64 times the urgency.
     pub head: [u32; 3],
 }
 

@@ -8,6 +8,8 @@ pub const TOP: u64 = 1000;
 pub struct Message {
     pub time: u32,
     pub serial: u32,
+    /// 0 routine, 1 important, 2 vital.
+    pub urgency: u32,
     pub pairs: Vec<(u32, u32)>,
     pub cancelled: bool,
 }
@@ -47,11 +49,11 @@ impl Message {
     }
 }
 
-/// Serial and value of those of positive value, higher first and the later first among equals.
-fn ordered<'a>(ms: impl Iterator<Item = &'a Message>, value: impl Fn(&Message) -> u64) -> Vec<(u32, u32)> {
-    let mut all: Vec<(usize, u32, u64)> = ms.enumerate().map(|(i, m)| (i, m.serial, value(m))).filter(|e| e.2 > 0).collect();
-    all.sort_by(|a, b| b.2.cmp(&a.2).then(b.0.cmp(&a.0)));
-    all.into_iter().map(|(_, s, v)| (s, v as u32)).collect()
+/// Serial and value of those of positive value: higher first, among equals by a second measure, and the later first where that is equal too.
+fn ordered<'a>(ms: impl Iterator<Item = &'a Message>, value: impl Fn(&Message) -> u64, second: impl Fn(&Message) -> u32) -> Vec<(u32, u32)> {
+    let mut all: Vec<(usize, &Message, u64)> = ms.enumerate().map(|(i, m)| (i, m, value(m))).filter(|e| e.2 > 0).collect();
+    all.sort_by(|a, b| b.2.cmp(&a.2).then(second(b.1).cmp(&second(a.1))).then(b.0.cmp(&a.0)));
+    all.into_iter().map(|(_, m, v)| (m.serial, v as u32)).collect()
 }
 
 // ---- the log
@@ -110,8 +112,9 @@ impl Log {
         self.clock = f.time();
         let mut arrived = Vec::new();
         match f {
-            Frame::Message { time, serial, pairs } => {
-                let m = Message { time: *time, serial: *serial, pairs: pairs.clone(), cancelled: false };
+            Frame::Message { time, serial, urgency, pairs } => {
+                // a message that says no urgency is routine
+                let m = Message { time: *time, serial: *serial, urgency: urgency.unwrap_or(0), pairs: pairs.clone(), cancelled: false };
                 self.messages.push(m.clone());
                 arrived.push(m);
             }
@@ -128,13 +131,15 @@ impl Log {
         (departed, arrived)
     }
 
+    /// Among equal scores the more urgent stands first.
     pub fn ranking(&self, q: &Query) -> Vec<(u32, u32)> {
-        let mut all = ordered(self.in_force().into_iter(), |m| m.score(q));
+        let mut all = ordered(self.in_force().into_iter(), |m| m.score(q), |m| m.urgency);
         all.truncate(q.k);
         all
     }
 
+    /// Among equal impacts the later stands first, whatever its urgency.
     pub fn postings(&self, term: u32) -> Vec<(u32, u32)> {
-        ordered(self.in_force().into_iter(), |m| m.impact(term))
+        ordered(self.in_force().into_iter(), |m| m.impact(term), |_| 0)
     }
 }

@@ -1,7 +1,7 @@
 //! Random passages made to suit a log: besides ordinary frames, ones refused under each number of ORDER in turn, frames handed again, serials used
 //! again, also of a message in its last second, that leaves by the frame or that was cancelled and still fills its place, cancellations of messages
-//! that are in force and of ones that aren't any more, twins of messages, and times on which messages leave. Every number is met so whatever the
-//! seed; rarer things may not be.
+//! that are in force and of ones that aren't any more, twins of messages, messages of each urgency and of none, and times on which messages leave.
+//! Every number is met so whatever the seed; rarer things may not be.
 
 use crate::paper::{Frame, Log};
 use crate::random::Random;
@@ -15,6 +15,8 @@ pub struct Style {
     pub counts: u64,
     pub serials: u64,
     pub queries: u64,
+    /// Lists have up to so many entries.
+    pub entries: u64,
     pub step: u64,
     /// One frame in so many comes a life after the one before, or in the last second of the oldest message in force; or a second later.
     pub jump: u64,
@@ -23,7 +25,7 @@ pub struct Style {
 }
 
 /// The refusals of a frame, in the order in which they are judged.
-pub const ORDER: [u32; 11] = [1, 2, 3, 4, 5, 6, 7, 8, 13, 9, 10];
+pub const ORDER: [u32; 12] = [1, 2, 3, 4, 14, 5, 6, 7, 8, 13, 9, 10];
 
 /// One frame in so many is made to be refused.
 const HOSTILE: usize = 16;
@@ -99,7 +101,8 @@ impl Source {
             0 | 1 => 2,
             2..=4 => 3,
             5 => 4,
-            6..=23 => 1,
+            6..=14 => 1,
+            15..=23 => 6,
             _ => 5,
         });
         let number = r.below(s.queries) as usize;
@@ -109,7 +112,7 @@ impl Source {
         // a frame of an earlier time is refused for that, so any serial will do
         let now = time.max(log.clock);
         match kind {
-            1 => {
+            1 | 6 => {
                 let cancelled = |r: &mut Random| picked(r, log.filled_at(now).into_iter().filter(|&i| log.messages[i].cancelled));
                 let old = match r.below(8) {
                     0 => earlier(r, 2 * log.capacity),
@@ -121,11 +124,12 @@ impl Source {
                 Frame::Message {
                     time,
                     serial: old.map_or(r.below(s.serials) as u32, |i| log.messages[i].serial),
+                    urgency: (kind == 6).then(|| r.below(3) as u32),
                     pairs: twin.map_or_else(|| rising(r, 16, s.terms, s.counts), |i| log.messages[i].pairs.clone()),
                 }
             }
             2 => Frame::Tick { time },
-            3 => Frame::Register { time, number, k: 1 + r.below(16) as usize, terms: rising(r, 8, s.terms, 15) },
+            3 => Frame::Register { time, number, k: 1 + r.below(s.entries) as usize, terms: rising(r, 8, s.terms, 15) },
             4 => Frame::Drop { time, number },
             _ => {
                 let old = match r.below(8) {
@@ -143,17 +147,18 @@ impl Source {
     /// A frame to which this number applies, and none that is judged before it; later ones may apply too. None where the log has nothing to refuse it
     /// for.
     fn refused(&mut self, log: &Log, number: u32) -> Option<Vec<u8>> {
-        let mut also = [false; 14];
+        let mut also = [false; 15];
         for n in ORDER.into_iter().skip_while(|n| *n != number) {
             also[n as usize] = n == number || self.r.one_in(3);
         }
         let kind = match number {
-            5 | 6 => 1 + 2 * self.r.below(2) as u32,
-            8 => 1,
+            5 | 6 => [1, 3, 6][self.r.below(3) as usize],
+            8 => [1, 6][self.r.below(2) as usize],
             9 => 3,
             10 => 4,
             13 => 5,
-            _ => 1 + self.r.below(5) as u32,
+            14 => 6,
+            _ => 1 + self.r.below(6) as u32,
         };
         let mut time = log.clock.saturating_add(self.r.below(self.style.step + 1) as u32);
         if also[7] {
@@ -181,10 +186,13 @@ impl Source {
             },
             _ => {}
         }
+        if let (true, Frame::Message { urgency: Some(urgency), .. }) = (also[14], &mut f) {
+            *urgency = 3;
+        }
         if let Frame::Message { pairs, .. } | Frame::Register { terms: pairs, .. } = &mut f {
             if also[6] {
                 let (i, p) = (r.below(pairs.len() as u64) as usize, pairs[0]);
-                let most = if kind == 1 { 16 } else { 8 };
+                let most = if kind == 3 { 8 } else { 16 };
                 if pairs.len() == most {
                     pairs.pop();
                 }
@@ -199,7 +207,8 @@ impl Source {
         let mut bytes = f.bytes();
         if also[4] {
             let bits = match &f {
-                Frame::Message { pairs, .. } => 60 + 18 * pairs.len(),
+                Frame::Message { urgency: None, pairs, .. } => 60 + 18 * pairs.len(),
+                Frame::Message { pairs, .. } => 62 + 18 * pairs.len(),
                 Frame::Tick { .. } => 36,
                 Frame::Register { terms, .. } => 48 + 14 * terms.len(),
                 Frame::Drop { .. } => 41,
@@ -223,7 +232,7 @@ impl Source {
             }
         }
         if also[2] {
-            let kind = [0, 6, 7, 8, 9, 10, 11, 12, 13, 14, 15][r.below(11) as usize];
+            let kind = [0, 7, 8, 9, 10, 11, 12, 13, 14, 15][r.below(10) as usize];
             bytes[0] = kind << 4 | bytes[0] & 15;
         }
         if also[1] {

@@ -59,7 +59,7 @@ fn lengths_lent() {
     assert_eq!(engine::postings(&fresh(), 1023, 0), Ok(vec![]));
 }
 
-/// The worked frames C4 to C7, and a cancellation: no fill follows its serial.
+/// The worked frames C4 to C7; a cancellation, whose serial no fill follows; and an urgent message of one pair, without a fill too.
 #[test]
 fn worked_frames() {
     let state = fresh();
@@ -76,7 +76,30 @@ fn worked_frames() {
     assert_eq!(number(&[0x50, 0, 0, 2, 0x80, 0, 1]), 13);
     assert_eq!(number(&[0x50, 0, 0, 2, 0x80, 0]), 3);
     assert_eq!(number(&[0x50, 0, 0, 2, 0x80, 0, 1, 0]), 3);
-    assert_eq!(number(&[0x60, 0, 0, 2, 0x80, 0, 1]), 2);
+    assert_eq!(Frame::Message { time: 10, serial: 1, urgency: Some(2), pairs: vec![(5, 1)] }.bytes(), [0x60, 0, 0, 0, 0xa0, 0, 1, 0x80, 5, 1]);
+    assert_eq!(number(&[0x60, 0, 0, 0, 0xa0, 0, 1, 0x80, 5, 1]), 0);
+    assert_eq!(number(&[0x60, 0, 0, 0, 0xa0, 0, 1, 0xc0, 5, 1]), 14);
+    assert_eq!(number(&[0x60, 0, 0, 0, 0xa0, 0, 1, 0x80, 5]), 3);
+    assert_eq!(number(&[0x60, 0, 0, 0, 0xa0, 0, 1, 0x80, 5, 1, 0]), 3);
+    assert_eq!(number(&[0x70, 0, 0, 0, 0xa0, 0, 1, 0x80, 5, 1]), 2);
+}
+
+/// An urgent message with everything wrong that can be, mended from one row to the next: of what is wrong the first is told.
+#[test]
+fn an_urgent_message_refused_in_order() {
+    let mut state = fresh();
+    let message = |time, serial, urgency, pairs: &[(u32, u32)]| Frame::Message { time, serial, urgency, pairs: pairs.to_vec() }.bytes();
+    assert_eq!(engine::frame(&mut state, &message(50, 1, None, &[(5, 1)])).number, 0);
+    for (mended, number) in [1, 2, 3, 4, 14, 5, 6, 7, 8, 0].into_iter().enumerate() {
+        let wrong = |place: usize, bad: u32, good: u32| if mended <= place { bad } else { good };
+        let pairs = [(5, wrong(5, 0, 1)), (wrong(6, 5, 6), 1)];
+        let mut bytes = message(wrong(7, 49, 50), wrong(8, 1, 2), Some(wrong(4, 3, 2)), &pairs);
+        // the last bit of six that fill up 98
+        *bytes.last_mut().unwrap() |= wrong(3, 1, 0) as u8;
+        bytes.resize(wrong(0, 4, wrong(2, 14, 13)) as usize, 0);
+        bytes[0] += wrong(1, 0x10, 0) as u8;
+        assert_eq!(engine::frame(&mut state, &bytes).number, number, "{bytes:02x?}");
+    }
 }
 
 /// Every kind, lengths around each boundary, and bytes of one value: the engine agrees with the reader written from the document.
@@ -125,7 +148,7 @@ fn check(state: &Lent, bytes: &[u8]) {
 #[test]
 fn writer() {
     let mut r = Random::new(12);
-    let mut met = [0usize; 13];
+    let mut met = [0usize; 15];
     for _ in 0..20000 {
         let n = r.below(18) as usize;
         let mut terms: Vec<u16> = (0..n).map(|_| r.below(1040) as u16).collect();
@@ -135,9 +158,10 @@ fn writer() {
         }
         let amounts: Vec<u8> = terms.iter().map(|_| if r.one_in(30) { 0 } else { 1 + r.pick(3, 255, 15) as u8 }).collect();
         let f = Fields {
-            kind: if r.one_in(20) { r.below(9) as u32 } else { 1 + r.below(5) as u32 },
+            kind: if r.one_in(20) { r.below(9) as u32 } else { 1 + r.below(6) as u32 },
             time: r.next() as u32,
             serial: r.pick(9, 1 << 32, 1 << 20) as u32,
+            urgency: r.pick(9, 1 << 32, 4) as u32,
             number: r.pick(9, 1 << 32, 32) as u32,
             k: r.below(18) as u32,
             pairs: if r.one_in(12) { r.below(40) as u32 } else { terms.len() as u32 },
@@ -152,12 +176,12 @@ fn writer() {
         assert_eq!(got, want, "{f:?}");
         met[*got.as_ref().err().unwrap_or(&0) as usize] += 1;
     }
-    for number in [0, 2, 5, 6, 12] {
+    for number in [0, 2, 14, 5, 6, 12] {
         assert!(met[number] > 20, "number {number} was hardly met: {met:?}");
     }
 }
 
-/// The bytes that the fields make, or 2, 5 or 6.
+/// The bytes that the fields make, or 2, 14, 5 or 6.
 fn expected(f: &Fields) -> Result<Vec<u8>, u32> {
     let pairs = |most: usize, top: u32| -> Result<Vec<(u32, u32)>, u32> {
         let n = f.pairs as usize;
@@ -172,13 +196,14 @@ fn expected(f: &Fields) -> Result<Vec<u8>, u32> {
     };
     let rising = |ps: &[(u32, u32)]| -> Result<(), u32> { if ps.windows(2).any(|w| w[0].0 >= w[1].0) { Err(6) } else { Ok(()) } };
     let frame = match f.kind {
-        1 => {
+        6 if f.urgency > 2 => return Err(14),
+        1 | 6 => {
             if f.serial > 0xf_ffff {
                 return Err(5);
             }
             let ps = pairs(16, 255)?;
             rising(&ps)?;
-            Frame::Message { time: f.time, serial: f.serial, pairs: ps }
+            Frame::Message { time: f.time, serial: f.serial, urgency: (f.kind == 6).then_some(f.urgency), pairs: ps }
         }
         2 => Frame::Tick { time: f.time },
         3 => {
@@ -196,6 +221,61 @@ fn expected(f: &Fields) -> Result<Vec<u8>, u32> {
         _ => return Err(2),
     };
     Ok(frame.bytes())
+}
+
+/// Urgencies above 2, those too whose last two bits are a grade's.
+const NO_URGENCY: [u32; 7] = [3, 4, 7, 256, 1 << 16, 1 << 31, u32::MAX];
+
+/// The writer with everything wrong in an urgent message, mended from one row to the next.
+#[test]
+fn an_urgent_message_not_written_in_order() {
+    for urgency in NO_URGENCY {
+        for (mended, number) in [2, 14, 5, 6, 12, 0].into_iter().enumerate() {
+            let wrong = |place: usize, bad: u32, good: u32| if mended <= place { bad } else { good };
+            let f = Fields {
+                kind: wrong(0, 7, 6),
+                serial: wrong(2, 1 << 20, 1),
+                urgency: wrong(1, urgency, 2),
+                pairs: 2,
+                terms: vec![5, wrong(3, 5, 6) as u16],
+                amounts: vec![1, 1],
+                ..Fields::default()
+            };
+            assert_eq!(engine::write(&f, wrong(4, 12, 13) as usize).err().unwrap_or(0), number, "{f:?}");
+        }
+    }
+}
+
+/// Kinds that have no urgency make the same frame whatever it is.
+#[test]
+fn urgencies_not_looked_at() {
+    for kind in 1..=5 {
+        let with = |urgency| Fields { kind, urgency, time: 7, serial: 9, number: 3, k: 2, pairs: 1, terms: vec![5], amounts: vec![1] };
+        let frame = engine::write(&with(0), 44).expect("a frame that can be written");
+        assert_eq!(frame[0] >> 4, kind as u8);
+        for urgency in [1, 2].into_iter().chain(NO_URGENCY) {
+            assert_eq!(engine::write(&with(urgency), 44).as_deref(), Ok(&frame[..]), "kind {kind}, urgency {urgency}");
+        }
+    }
+}
+
+/// Messages of both kinds, of each urgency and number of pairs: written, read and taken in, with the kind and the urgency that they were given.
+#[test]
+fn both_kinds_of_message() {
+    for (kind, urgency) in [(1, 0), (6, 0), (6, 1), (6, 2)] {
+        for n in 1..=16 {
+            let (terms, amounts): (Vec<u16>, Vec<u8>) = (0..n).map(|i| (60 * i as u16 + 7, 255 - i as u8)).unzip();
+            let f = Fields { kind, urgency, time: u32::MAX, serial: 0xf_ffff, pairs: n, terms, amounts, ..Fields::default() };
+            let bytes = engine::write(&f, 44).expect("a frame that can be written");
+            let pairs = f.terms.iter().zip(&f.amounts).map(|(&t, &a)| (t as u32, a as u32)).collect();
+            let want = Frame::Message { time: u32::MAX, serial: 0xf_ffff, urgency: (kind == 6).then_some(urgency), pairs };
+            assert_eq!(Frame::read(&bytes), Ok(want));
+            assert_eq!((bytes[0] >> 4, bytes.len()), (kind as u8, (60 + 2 * (kind == 6) as usize + 18 * n as usize).div_ceil(8)));
+            let mut state = fresh();
+            assert_eq!(engine::frame(&mut state, &bytes).number, 0);
+            assert_eq!(engine::window(state.bytes())[0].head, [u32::MAX, 0xf_ffff, n + 64 * urgency]);
+        }
+    }
 }
 
 /// State memory that no sequence of calls left: every call is safe, ends, and writes only within what it was lent. What it answers isn't fixed.
@@ -226,6 +306,11 @@ fn foreign_memory() {
     assert!(changed > 200, "hardly a call took a frame into foreign memory: {changed}");
 }
 
+/// None, as kind 1 has it, or one of the three.
+fn urgency(r: &mut Random) -> Option<u32> {
+    r.below(4).checked_sub(1).map(|u| u as u32)
+}
+
 /// Any bytes; all of one value; a passage's state with bytes or words of it changed.
 fn foreign(r: &mut Random, round: usize) -> Vec<u8> {
     if round % 4 == 0 {
@@ -239,7 +324,8 @@ fn foreign(r: &mut Random, round: usize) -> Vec<u8> {
     for i in 0..r.below(60) as u32 {
         let (number, terms) = (r.below(32) as usize, vec![(1, 1), (500, 15)]);
         engine::frame(&mut state, &Frame::Register { time: i, number, k: 1 + r.below(16) as usize, terms }.bytes());
-        engine::frame(&mut state, &Frame::Message { time: i, serial: i, pairs: vec![(0, 1), (1, 255), (500, 1 + i), (1023, 7)] }.bytes());
+        let (urgency, pairs) = (urgency(r), vec![(0, 1), (1, 255), (500, 1 + i), (1023, 7)]);
+        engine::frame(&mut state, &Frame::Message { time: i, serial: i, urgency, pairs }.bytes());
         engine::frame(&mut state, &Frame::Cancel { time: i, serial: r.below(60) as u32 }.bytes());
     }
     let mut bytes = state.bytes().to_vec();
@@ -256,8 +342,11 @@ fn foreign(r: &mut Random, round: usize) -> Vec<u8> {
                 1 => 5 + 19 * r.below(257) + r.below(4),
                 _ => 4888 + 60 * r.below(32) + r.below(20),
             } as usize;
-            // the serial word of a cancelled message, too: 1, 16 and 17 times 2 to the 20
-            let word = [0, 1, 16, 17, 255, 256, 257, 1 << 20, 16 << 20, 17 << 20, 1 << 31, u32::MAX - 1, u32::MAX][r.below(13) as usize];
+            // the serial word of a cancelled message, too: 1, 16 and 17 times 2 to the 20; and sizes beside an urgency of 1 to 3
+            let words = [
+                0, 1, 16, 17, 64, 80, 145, 192, 209, 255, 256, 257, 1 << 20, 16 << 20, 17 << 20, 1 << 31, u32::MAX - 1, u32::MAX,
+            ];
+            let word: u32 = words[r.below(words.len() as u64) as usize];
             bytes[4 * i..4 * i + 4].copy_from_slice(&u32::to_le_bytes(word));
         }
     }
@@ -272,7 +361,7 @@ fn frame(r: &mut Random) -> Vec<u8> {
         0 => Frame::Tick { time },
         1 => Frame::Register { time, number, k: 1 + r.below(16) as usize, terms: vec![(1, 1), (500, 15)] },
         2 => Frame::Drop { time, number },
-        3 => Frame::Message { time, serial: r.below(1 << 20) as u32, pairs: vec![(0, 1), (1, 255), (1023, 7)] },
+        3 => Frame::Message { time, serial: r.below(1 << 20) as u32, urgency: urgency(r), pairs: vec![(0, 1), (1, 255), (1023, 7)] },
         4 => Frame::Cancel { time, serial: r.pick(4, 1 << 20, 60) as u32 },
         _ => {
             let n = r.pick(4, 256, 45) as usize;
@@ -287,14 +376,15 @@ fn frame(r: &mut Random) -> Vec<u8> {
 fn foreign_output() {
     let mut r = Random::new(14);
     for _ in 0..5000 {
-        let kind = r.pick(9, 1 << 32, 6) as u32;
+        let kind = r.pick(9, 1 << 32, 7) as u32;
         let n = 1 + r.below(if kind == 3 { 8 } else { 16 });
         let mut terms: Vec<u16> = (0..n).map(|_| r.below(1024) as u16).collect();
         terms.sort_unstable();
         terms.dedup();
         let amounts: Vec<u8> = terms.iter().map(|_| 1 + r.below(15) as u8).collect();
-        let (time, serial, number, k) = (r.next() as u32, r.below(1 << 20) as u32, r.below(32) as u32, 1 + r.below(16) as u32);
-        let f = Fields { kind, time, serial, number, k, pairs: terms.len() as u32, terms, amounts };
+        let (time, serial, urgency) = (r.next() as u32, r.below(1 << 20) as u32, r.below(3) as u32);
+        let (number, k) = (r.below(32) as u32, 1 + r.below(16) as u32);
+        let f = Fields { kind, time, serial, urgency, number, k, pairs: terms.len() as u32, terms, amounts };
         let room = r.below(60) as usize;
         assert_eq!(engine::write_over(&f, &r.bytes(room)), engine::write(&f, room), "{f:?}");
     }

@@ -71,9 +71,22 @@ enum Event {
     CancelledLeavingByAge,
     CancelledLeavingForN,
     CancelledLeavingItsSerialListed,
+    /// Of two entries the earlier message stands first, being the more urgent of equal scores; or the less urgent does, its score being higher.
+    UrgentBeforeLater,
+    ScoreBeforeUrgency,
+    /// Nothing of a full list leaves, and the message that arrives scores what its last entry does and isn't listed; or it is listed with an entry of
+    /// its score on either side.
+    EqualArrivalUnlisted,
+    ArrivalBetweenEquals,
+    /// An entry of a full list leaves, and the message that arrives scores what its last entry does or more and isn't listed: others are more urgent.
+    LeftOutBeforeNewcomer,
+    /// An entry leaves and none arrives: of those that weren't listed an earlier message takes the place, and a later one of its score doesn't.
+    EarlierTakesThePlace,
+    /// Of two postings of equal impact the less urgent stands first, being the later.
+    LaterPostingBeforeUrgent,
 }
 
-const EVENTS: [Event; 42] = [
+const EVENTS: [Event; 49] = [
     Event::SerialUsedAgain,
     Event::TwoInOneSecond,
     Event::LeavingAsOneArrives,
@@ -116,16 +129,23 @@ const EVENTS: [Event; 42] = [
     Event::CancelledLeavingByAge,
     Event::CancelledLeavingForN,
     Event::CancelledLeavingItsSerialListed,
+    Event::UrgentBeforeLater,
+    Event::ScoreBeforeUrgency,
+    Event::EqualArrivalUnlisted,
+    Event::ArrivalBetweenEquals,
+    Event::LeftOutBeforeNewcomer,
+    Event::EarlierTakesThePlace,
+    Event::LaterPostingBeforeUrgent,
 ];
 
 struct Met {
-    numbers: [usize; 14],
+    numbers: [usize; 15],
     events: [usize; EVENTS.len()],
 }
 
 impl Met {
     fn nothing() -> Self {
-        Met { numbers: [0; 14], events: [0; EVENTS.len()] }
+        Met { numbers: [0; 15], events: [0; EVENTS.len()] }
     }
 
     fn note(&mut self, event: Event, met: bool) {
@@ -291,10 +311,17 @@ impl Passage {
         self.met.note(Event::SeveralListedLeavingFull, several && full);
         self.met.note(Event::SeveralListedLeavingShort, several && !full);
         if let Some((serial, score)) = arrived {
+            let at = after.iter().position(|e| e.0 == serial);
+            let equal = |at: usize| after.get(at).is_some_and(|e| e.1 == score);
             self.met.note(Event::ArrivalEqualToLast, full && leaving.is_empty() && score == last);
+            self.met.note(Event::EqualArrivalUnlisted, full && leaving.is_empty() && score == last && at.is_none());
+            self.met.note(Event::ArrivalBetweenEquals, at.is_some_and(|at| at > 0 && equal(at - 1) && equal(at + 1)));
             self.met.note(Event::LeavingAsALowerArrives, full && !leaving.is_empty() && 0 < score && score < last);
             self.met.note(Event::LeavingAsAHigherArrives, full && !leaving.is_empty() && last <= score);
+            self.met.note(Event::LeftOutBeforeNewcomer, full && !leaving.is_empty() && last <= score && at.is_none());
             self.met.note(Event::SerialOfALeavingEntry, leaving.contains(&serial));
+        } else {
+            self.met.note(Event::EarlierTakesThePlace, full && !leaving.is_empty() && is_later_passed_over(&self.log, query, before, &after));
         }
         if let Some(m) = step.cancelled() {
             let listed = leaving.contains(&m.serial);
@@ -323,14 +350,14 @@ impl Passage {
         }
     }
 
-    /// The slots of the window say which messages fill a place, and which of them are cancelled.
+    /// The slots of the window say which messages fill a place, how urgent they are, and which of them are cancelled.
     fn compare_window(&self) {
         let want = |&i: &usize| {
             let (m, n) = (&self.log.messages[i], self.log.messages[i].pairs.len() as u32);
-            if m.cancelled { [m.time, m.serial + 1_048_576 * n, 0] } else { [m.time, m.serial, n] }
+            if m.cancelled { [m.time, m.serial + 1_048_576 * n, 64 * m.urgency] } else { [m.time, m.serial, n + 64 * m.urgency] }
         };
         let want: Vec<_> = self.log.filled_at(self.log.clock).iter().map(want).collect();
-        assert_eq!(engine::window(self.state.bytes()).iter().map(|s| s.head).collect::<Vec<_>>(), want, "time, serial and size of the slots");
+        assert_eq!(engine::window(self.state.bytes()).iter().map(|s| s.head).collect::<Vec<_>>(), want, "heads of the slots");
     }
 
     fn compare_kept(&mut self, q: usize) {
@@ -345,6 +372,12 @@ impl Passage {
         assert_eq!(engine::list(&self.state, q as u32).as_deref(), Ok(&ranking[..]), "list of query {q}");
         let above: Vec<u32> = self.log.in_force().iter().filter(|m| m.exceeds(query, &kept.thresholds)).map(|m| m.serial).collect();
         assert_eq!(kept.candidates, above, "candidates of query {q}");
+        let at = |e: &(u32, u32)| self.log.holder(e.0, self.log.clock).expect("a listed message is in force");
+        let grade = |e: &(u32, u32)| self.log.messages[at(e)].urgency;
+        let earlier_first = ranking.windows(2).any(|w| w[0].1 == w[1].1 && at(&w[0]) < at(&w[1]));
+        let grades_rise = ranking.windows(2).any(|w| w[0].1 > w[1].1 && grade(&w[0]) < grade(&w[1]));
+        self.met.note(Event::UrgentBeforeLater, earlier_first);
+        self.met.note(Event::ScoreBeforeUrgency, grades_rise);
         self.met.note(Event::EqualScoresListed, ranking.windows(2).any(|w| w[0].1 == w[1].1));
         self.met.note(Event::ListShort, ranking.len() < query.k);
         self.met.note(Event::ListFull, ranking.len() == query.k);
@@ -361,8 +394,10 @@ impl Passage {
         }
     }
 
-    fn compare_postings(&self, term: u32) {
+    fn compare_postings(&mut self, term: u32) {
         let want = self.log.postings(term);
+        let grade = |e: &(u32, u32)| self.log.messages[self.log.holder(e.0, self.log.clock).unwrap()].urgency;
+        self.met.note(Event::LaterPostingBeforeUrgent, want.windows(2).any(|w| w[0].1 == w[1].1 && grade(&w[0]) < grade(&w[1])));
         assert_eq!(engine::postings(&self.state, term, 8 * want.len() + 5).as_deref(), Ok(&want[..]), "postings of {term}");
         if !want.is_empty() {
             assert_eq!(engine::postings(&self.state, term, 8 * want.len() - 1), Err(12));
@@ -370,10 +405,18 @@ impl Passage {
     }
 }
 
+/// Whether a message has entered the list that was accepted before another of its score which has not.
+fn is_later_passed_over(log: &Log, query: &Query, before: &[(u32, u32)], after: &[(u32, u32)]) -> bool {
+    let lists = |list: &[(u32, u32)], m: &Message| list.iter().any(|e| e.0 == m.serial);
+    let all = log.in_force();
+    let entered = all.iter().position(|m| !lists(before, m) && lists(after, m));
+    entered.is_some_and(|i| all[i + 1..].iter().any(|m| !lists(after, m) && m.score(query) == all[i].score(query)))
+}
+
 const ROUNDS: u64 = 3;
 
-/// Every number of ORDER must be met, and every event but those that the style rules out. With another seed or fewer rounds a rare event may be
-/// missing, so there events aren't asked for.
+/// Every number of ORDER must be met, and every event but those that the style rules out or hardly ever has. With another seed or fewer rounds a rare
+/// event may be missing, so there events aren't asked for.
 fn run(style: Style, frames: usize, own_seed: u64, ruled_out: &[Event]) {
     run_from(0, style, frames, own_seed, ruled_out);
 }
@@ -413,7 +456,8 @@ fn run_from(start: u32, style: Style, frames: usize, own_seed: u64, ruled_out: &
 
 #[test]
 fn ordinary() {
-    run(Style { capacity: 64, life: 200, terms: 40, counts: 9, serials: 200, queries: 32, step: 2, jump: 60, cancels: 18 }, 6000, 2, &[]);
+    let style = Style { capacity: 64, life: 200, terms: 40, counts: 9, serials: 200, queries: 32, entries: 16, step: 2, jump: 60, cancels: 18 };
+    run(style, 6000, 2, &[Event::LeftOutBeforeNewcomer]);
 }
 
 #[test]
@@ -431,49 +475,97 @@ fn one_message_in_force() {
         Event::UnlistedCancelled,
         Event::UnreachedByACancellation,
         Event::CancelledLeavingItsSerialListed,
+        Event::UrgentBeforeLater,
+        Event::ScoreBeforeUrgency,
+        Event::EqualArrivalUnlisted,
+        Event::ArrivalBetweenEquals,
+        Event::LeftOutBeforeNewcomer,
+        Event::EarlierTakesThePlace,
+        Event::LaterPostingBeforeUrgent,
     ];
-    run(Style { capacity: 1, life: 50, terms: 6, counts: 3, serials: 4, queries: 8, step: 4, jump: 10, cancels: 18 }, 1500, 2, &ruled_out);
+    let style = Style { capacity: 1, life: 50, terms: 6, counts: 3, serials: 4, queries: 8, entries: 16, step: 4, jump: 10, cancels: 18 };
+    run(style, 1500, 2, &ruled_out);
 }
 
 /// Fewer cancellations than elsewhere: most of the 256 places are to be filled by messages in force.
 #[test]
 fn a_full_ring() {
-    run(Style { capacity: 256, life: 65535, terms: 12, counts: 4, serials: 1 << 20, queries: 6, step: 1, jump: 400, cancels: 6 }, 6500, 12, &[]);
+    let style = Style { capacity: 256, life: 65535, terms: 12, counts: 4, serials: 1 << 20, queries: 6, entries: 16, step: 1, jump: 400, cancels: 6 };
+    run(style, 6500, 12, &[Event::LeftOutBeforeNewcomer]);
 }
 
 #[test]
 fn one_second_of_life() {
-    let ruled_out = [Event::OldestLeavingForN, Event::LastSecondCutForN, Event::CancelledPushedOut, Event::CancelledLeavingForN];
-    run(Style { capacity: 256, life: 1, terms: 8, counts: 3, serials: 60, queries: 12, step: 1, jump: 10, cancels: 18 }, 2000, 4, &ruled_out);
+    let ruled_out = [
+        Event::OldestLeavingForN,
+        Event::LastSecondCutForN,
+        Event::CancelledPushedOut,
+        Event::CancelledLeavingForN,
+        Event::EqualArrivalUnlisted,
+        Event::ArrivalBetweenEquals,
+        Event::LeftOutBeforeNewcomer,
+        Event::EarlierTakesThePlace,
+        Event::LaterPostingBeforeUrgent,
+    ];
+    let style = Style { capacity: 256, life: 1, terms: 8, counts: 3, serials: 60, queries: 12, entries: 16, step: 1, jump: 10, cancels: 18 };
+    run(style, 2000, 4, &ruled_out);
 }
 
 #[test]
 fn ties() {
-    run(Style { capacity: 40, life: 300, terms: 2, counts: 1, serials: 120, queries: 10, step: 2, jump: 60, cancels: 18 }, 8000, 8, &[]);
+    let style = Style { capacity: 40, life: 300, terms: 2, counts: 1, serials: 120, queries: 10, entries: 16, step: 2, jump: 60, cancels: 18 };
+    run(style, 8000, 8, &[]);
 }
 
 #[test]
 fn extreme_counts() {
-    run(Style { capacity: 100, life: 1000, terms: 1024, counts: 255, serials: 1 << 20, queries: 32, step: 6, jump: 60, cancels: 18 }, 8000, 6, &[]);
+    let (capacity, life, serials) = (100, 1000, 1 << 20);
+    let style = Style { capacity, life, terms: 1024, counts: 255, serials, queries: 32, entries: 16, step: 6, jump: 60, cancels: 18 };
+    run(style, 8000, 18, &[Event::LeftOutBeforeNewcomer]);
 }
 
 /// The clock's last second comes about half way, and there it stays.
 #[test]
 fn up_to_the_clocks_end() {
-    let style = Style { capacity: 30, life: 90, terms: 10, counts: 4, serials: 300, queries: 12, step: 3, jump: 30, cancels: 18 };
-    run_from(u32::MAX - 6000, style, 6000, 12, &[]);
+    let style = Style { capacity: 30, life: 90, terms: 10, counts: 4, serials: 300, queries: 12, entries: 16, step: 3, jump: 30, cancels: 18 };
+    run_from(u32::MAX - 6000, style, 6000, 3, &[Event::LeftOutBeforeNewcomer]);
 }
 
 /// As many cancellations as messages, of few serials: most places are filled by cancelled messages, several often of one serial.
 #[test]
 fn cancelled_as_often_as_sent() {
-    run(Style { capacity: 20, life: 60, terms: 6, counts: 4, serials: 30, queries: 12, step: 2, jump: 30, cancels: 18 }, 4000, 3, &[]);
+    let style = Style { capacity: 20, life: 60, terms: 6, counts: 4, serials: 30, queries: 12, entries: 16, step: 2, jump: 30, cancels: 18 };
+    run(style, 4000, 3, &[Event::LeftOutBeforeNewcomer]);
 }
 
-// ---- passages by hand: every message has term 5 once, and query 0, where there is one, lists the best 16 by it
+/// Short lists of few messages, which have two terms at most, once each: most scores are equal, and urgencies decide who is listed.
+#[test]
+fn urgencies_decide() {
+    let style = Style { capacity: 12, life: 60, terms: 2, counts: 1, serials: 40, queries: 8, entries: 4, step: 2, jump: 30, cancels: 9 };
+    run(style, 6000, 5, &[]);
+}
+
+/// One term: every score for a query is the same, so only urgency and order of acceptance are left.
+#[test]
+fn one_score() {
+    let ruled_out = [Event::Skip, Event::LeavingAsALowerArrives, Event::UnreachedByACancellation, Event::ScoreBeforeUrgency];
+    let style = Style { capacity: 9, life: 40, terms: 1, counts: 3, serials: 30, queries: 6, entries: 4, step: 2, jump: 30, cancels: 9 };
+    run(style, 4000, 9, &ruled_out);
+}
+
+// ---- passages by hand: every message has term 5 once, mostly alone, and query 0, where there is one, lists the best 16 by it
 
 fn message(time: u32, serial: u32) -> Vec<u8> {
-    Frame::Message { time, serial, pairs: vec![(5, 1)] }.bytes()
+    graded(time, serial, None)
+}
+
+fn graded(time: u32, serial: u32, urgency: Option<u32>) -> Vec<u8> {
+    Frame::Message { time, serial, urgency, pairs: vec![(5, 1)] }.bytes()
+}
+
+/// With term 6 beside it, and so of a lower score.
+fn lower(time: u32, serial: u32, urgency: Option<u32>) -> Vec<u8> {
+    Frame::Message { time, serial, urgency, pairs: vec![(5, 1), (6, 1)] }.bytes()
 }
 
 fn tick(time: u32) -> Vec<u8> {
@@ -603,12 +695,24 @@ fn serials_around_the_ring() {
 
 // ---- cancellations
 
-/// Frames in hexadecimal, with number and departures of each and the list of query 0 after it.
+/// A frame in hexadecimal, its number and departures, and the list of query 0 after it.
+type Row<'a> = (&'a str, u32, u32, &'a [(u32, u32)]);
+
+/// A passage with N 3 and T 100.
+fn follow(rows: &[Row]) {
+    let mut p = Passage::new(3, 100);
+    for &(frame, number, departures, list) in rows {
+        let bytes: Vec<u8> = (0..frame.len()).step_by(2).map(|i| u8::from_str_radix(&frame[i..i + 2], 16).unwrap()).collect();
+        let reply = p.hand(&bytes);
+        assert_eq!((reply.number, reply.departures), (number, departures), "{frame}");
+        assert_eq!(engine::list(&p.state, 0).as_deref(), Ok(list), "{frame}");
+    }
+}
+
 #[test]
 fn a_passage_with_cancellations() {
-    let mut p = Passage::new(3, 100);
-    for (frame, number, departures, list) in [
-        ("30000000000901440920", 0, 0, &[][..]),
+    follow(&[
+        ("30000000000901440920", 0, 0, &[]),
         ("10000000a0000110140c0904", 0, 0, &[(1, 2200)]),
         ("10000001400002001404", 0, 0, &[(1, 2200), (2, 1000)]),
         ("10000001e000031024042801", 0, 0, &[(1, 2200), (3, 1414)]),
@@ -621,12 +725,7 @@ fn a_passage_with_cancellations() {
         // serial 3, which arrived at 30, is past at 131; the clock stays
         ("50000008300003", 13, 0, &[(4, 2000), (3, 1414)]),
         ("20000008e0", 0, 2, &[(4, 2000)]),
-    ] {
-        let bytes: Vec<u8> = (0..frame.len()).step_by(2).map(|i| u8::from_str_radix(&frame[i..i + 2], 16).unwrap()).collect();
-        let reply = p.hand(&bytes);
-        assert_eq!((reply.number, reply.departures), (number, departures), "{frame}");
-        assert_eq!(engine::list(&p.state, 0).as_deref(), Ok(list), "{frame}");
-    }
+    ]);
 }
 
 /// What a frame that is accepted does: how many departures it tells, whether it marks query 0, and what that lists then.
@@ -727,7 +826,7 @@ fn the_greatest_serial_cancelled() {
     p.hand(&message(10, 0));
     for n in 1..=16 {
         let pairs = (0..n).map(|i| (5 + 60 * i, 255)).collect();
-        p.hand(&Frame::Message { time: 10, serial: LAST, pairs }.bytes());
+        p.hand(&Frame::Message { time: 10, serial: LAST, urgency: None, pairs }.bytes());
         assert_eq!(p.hand(&message(10, LAST)).number, 8);
         assert_eq!(done(&mut p, &cancel(10, LAST)), (1, 1, vec![0]), "{n} pairs");
     }
@@ -755,15 +854,125 @@ fn cancelled_in_a_full_window() {
 fn cancelled_below_the_threshold() {
     let mut p = Passage::new(8, 100);
     p.hand(&Frame::Register { time: 0, number: 0, k: 1, terms: vec![(5, 1)] }.bytes());
-    let less = |serial| Frame::Message { time: 10, serial, pairs: vec![(5, 1), (6, 1)] }.bytes();
-    p.hand(&less(1));
-    p.hand(&less(2));
+    p.hand(&lower(10, 1, None));
+    p.hand(&lower(10, 2, None));
     p.hand(&message(10, 3));
     p.hand(&message(10, 4));
     assert_eq!(done(&mut p, &cancel(10, 1)), (1, 0, vec![4]));
     assert_eq!(done(&mut p, &cancel(10, 3)), (1, 1, vec![4]));
     assert_eq!(done(&mut p, &cancel(10, 4)), (1, 1, vec![2]));
     assert_eq!(engine::list(&p.state, 0), Ok(vec![(2, 707)]));
+}
+
+// ---- urgencies
+
+const ROUTINE: Option<u32> = Some(0);
+const IMPORTANT: Option<u32> = Some(1);
+const VITAL: Option<u32> = Some(2);
+
+#[test]
+fn a_passage_with_urgencies() {
+    follow(&[
+        ("3000000000080144", 0, 0, &[]),
+        ("60000000a00001800501", 0, 0, &[(1, 1000)]),
+        // of kind 1: routine, and so behind the vital one though it is later
+        ("10000001400002001404", 0, 0, &[(1, 1000), (2, 1000)]),
+        ("60000001e00003400501", 0, 0, &[(1, 1000), (3, 1000)]),
+        // of kind 6, and routine too: serial 1 leaves for N
+        ("60000001e00004000501", 0, 1, &[(3, 1000), (4, 1000)]),
+        // urgency 3 and a count of 0
+        ("60000000a00001c00500", 14, 0, &[(3, 1000), (4, 1000)]),
+    ]);
+}
+
+/// An engine with N 3 and query 0, which lists the best two by term 5.
+fn two_listed() -> Passage {
+    let mut p = Passage::new(3, 100);
+    p.hand(&Frame::Register { time: 0, number: 0, k: 2, terms: vec![(5, 1)] }.bytes());
+    p
+}
+
+/// The vital one leaves with the frame that brings a routine one of the same score: the important one that wasn't listed takes the place. Then the
+/// most urgent has the lowest score, and an urgent one is cancelled.
+#[test]
+fn one_left_out_before_a_newcomer() {
+    let mut p = two_listed();
+    p.hand(&graded(10, 1, VITAL));
+    p.hand(&graded(20, 2, IMPORTANT));
+    assert_eq!(done(&mut p, &graded(30, 3, IMPORTANT)), (0, 1, vec![1, 3]));
+    assert_eq!(done(&mut p, &message(40, 4)), (1, 1, vec![3, 2]));
+    assert_eq!(done(&mut p, &lower(50, 5, VITAL)), (1, 1, vec![3, 4]));
+    assert_eq!(done(&mut p, &cancel(60, 3)), (1, 1, vec![4, 5]));
+    assert_eq!(engine::list(&p.state, 0), Ok(vec![(4, 1000), (5, 707)]));
+}
+
+/// Every five messages of any urgency or of kind 1, with lists of up to three and one place fewer than messages; then each list's first is cancelled
+/// until none is left.
+#[test]
+fn every_order_of_urgencies() {
+    const KINDS: [Option<u32>; 4] = [None, ROUTINE, IMPORTANT, VITAL];
+    for (order, k) in (0..4usize.pow(5)).flat_map(|order| [1, 2, 3].map(|k| (order, k))) {
+        let mut p = Passage::new(4, 100);
+        p.hand(&Frame::Register { time: 0, number: 0, k, terms: vec![(5, 1)] }.bytes());
+        for i in 0..5 {
+            assert_eq!(p.hand(&graded(i, i, KINDS[order / 4usize.pow(i) % 4])).number, 0);
+        }
+        p.compare_postings(5);
+        while let Some(&first) = listed(&p).first() {
+            assert_eq!(p.hand(&cancel(5, first)).departures, 1);
+        }
+    }
+}
+
+/// The same messages in both kinds: not a byte of the state tells a routine one of kind 6 from one of kind 1.
+#[test]
+fn routine_in_both_kinds() {
+    let (mut plain, mut routine) = (two_listed(), two_listed());
+    for i in 0..300 {
+        let (a, b) = (plain.hand(&graded(i, i, None)), routine.hand(&graded(i, i, ROUTINE)));
+        assert_eq!(a, b);
+        assert!(plain.state.bytes() == routine.state.bytes(), "the states differ after message {i}");
+    }
+}
+
+/// The ring's slots are used again by messages of other urgencies, and a serial by its cancelled message's successor: no urgency stays behind.
+#[test]
+fn urgencies_of_slots_used_again() {
+    let mut p = two_listed();
+    for i in 0..600 {
+        let urgency = [VITAL, None, IMPORTANT, ROUTINE, VITAL, IMPORTANT, None][i as usize % 7];
+        p.hand(&graded(i, i, urgency));
+        if i % 5 == 0 {
+            assert_eq!(p.hand(&cancel(i, i)).number, 0);
+            assert_eq!(p.hand(&graded(i, i, [ROUTINE, VITAL][i as usize % 2])).number, 0);
+        }
+    }
+}
+
+/// A list goes by urgency where scores are equal, the postings of the very same messages don't: the latest is first.
+#[test]
+fn postings_whatever_the_urgency() {
+    let mut p = watched(8, 100);
+    for (serial, urgency) in [VITAL, IMPORTANT, ROUTINE, IMPORTANT, None, VITAL].into_iter().enumerate() {
+        p.hand(&graded(10, serial as u32, urgency));
+    }
+    assert_eq!(listed(&p), [5, 0, 3, 1, 4, 2]);
+    assert_eq!(engine::postings(&p.state, 5, 48), Ok((0..6).rev().map(|s| (s, 1000)).collect()));
+}
+
+/// With k 1 and weight 1 the only tight threshold is one below the listed score. A message of that score is above it and marks the query, be it
+/// listed or not; one of a lower score is not, however urgent.
+#[test]
+fn marks_whatever_the_urgency() {
+    let mut p = Passage::new(8, 100);
+    p.hand(&Frame::Register { time: 0, number: 0, k: 1, terms: vec![(5, 1)] }.bytes());
+    assert_eq!(done(&mut p, &graded(10, 1, IMPORTANT)), (0, 1, vec![1]));
+    assert_eq!(done(&mut p, &graded(10, 2, ROUTINE)), (0, 1, vec![1]));
+    assert_eq!(done(&mut p, &lower(10, 3, VITAL)), (0, 0, vec![1]));
+    assert_eq!(done(&mut p, &graded(10, 4, IMPORTANT)), (0, 1, vec![4]));
+    assert_eq!(done(&mut p, &cancel(10, 2)), (1, 1, vec![4]));
+    assert_eq!(done(&mut p, &cancel(10, 3)), (1, 0, vec![4]));
+    assert_eq!(done(&mut p, &cancel(10, 4)), (1, 1, vec![1]));
 }
 
 // ---- impacts
@@ -774,7 +983,7 @@ fn assert_impacts(others: u32, counts: impl Iterator<Item = (u32, u32)>) {
     assert_eq!(engine::start(&mut state, 1, 1), 0);
     for (serial, (f, g)) in counts.enumerate() {
         let pairs = std::iter::once((5, f)).chain((0..others).map(|i| (6 + i, g))).collect();
-        assert_eq!(engine::frame(&mut state, &Frame::Message { time: 0, serial: serial as u32, pairs }.bytes()).number, 0);
+        assert_eq!(engine::frame(&mut state, &Frame::Message { time: 0, serial: serial as u32, urgency: None, pairs }.bytes()).number, 0);
         let [(_, impact)] = engine::postings(&state, 5, 8).unwrap()[..] else { panic!("term 5 has one posting") };
         let (w, n, reach) = (impact as u64, (f * f + others * g * g) as u64, TOP * f as u64);
         assert!(w * w * n <= reach * reach && reach * reach < (w + 1) * (w + 1) * n, "{w} for {f} beside {others} of {g}");

@@ -47,7 +47,11 @@ fn tick(time: u32) -> Vec<u8> {
 }
 
 fn message(time: u32, serial: u32, pairs: &[(u32, u32)]) -> Vec<u8> {
-    Frame::Message { time, serial, pairs: pairs.to_vec() }.bytes()
+    Frame::Message { time, serial, urgency: None, pairs: pairs.to_vec() }.bytes()
+}
+
+fn graded(time: u32, serial: u32, urgency: u32, pairs: &[(u32, u32)]) -> Vec<u8> {
+    Frame::Message { time, serial, urgency: Some(urgency), pairs: pairs.to_vec() }.bytes()
 }
 
 fn register(time: u32, number: usize, k: usize, terms: &[(u32, u32)]) -> Vec<u8> {
@@ -90,8 +94,10 @@ fn cut_frames() {
         (&[255, 0x20, 0, 0, 7, 0x80], "1 0 00000000 0\n"),
         (&[4, 0x20, 0, 0, 7, 0x80], "1 1 00000000 0\n2 1 00000000 0\n"),
         (&[6, 0x20, 0, 0, 7, 0x80, 0], "1 3 00000000 0\n"),
-        (&[9, 0x60, 0, 0, 0, 0], "1 2 00000000 0\n"),
+        (&[9, 0x70, 0, 0, 0, 0], "1 2 00000000 0\n"),
         (&[7, 0x50, 0, 0, 0, 0, 0], "1 3 00000000 0\n"),
+        (&[10, 0x60, 0, 0, 0, 0xa0, 0, 1, 0xc0, 5], "1 3 00000000 0\n"),
+        (&[11, 0x60, 0, 0, 0, 0xa0, 0, 1, 0xc0, 5, 1], "1 14 00000000 0\n"),
     ] {
         let all = [&[2, 0, 0x64], rest].concat();
         assert_eq!(session(&all), want, "{all:02x?}");
@@ -143,6 +149,30 @@ fn cancelling() {
     let want = "1 0 00000001 0\nQ 0 0\n2 0 00000001 0\nQ 0 1 1 2200\n3 0 00000001 0\nQ 0 2 1 2200 2 1000\n4 0 00000001 0\nQ 0 2 1 2200 3 1414\n\
                 5 0 00000001 1\nQ 0 2 3 1414 2 1000\n6 13 00000000 0\n7 0 00000001 0\nQ 0 2 3 1414 1 1000\n8 0 00000001 1\nQ 0 2 4 2000 3 1414\n\
                 9 7 00000000 0\n10 13 00000000 0\n11 0 00000001 2\nQ 0 1 4 2000\n12 0 00000001 1\nQ 0 0\n13 0 00000000 0\n";
+    assert_eq!(session(&input(3, 100, &frames)), want);
+}
+
+/// Equal scores ranked by urgency, as messages come, leave for N and are cancelled; urgency 3 is refused, before a count of 0 is. With one term of
+/// weight 1 only one threshold is tight, so the marks don't depend on which the engine chose.
+#[test]
+fn urgencies() {
+    let one = &[(5, 1)];
+    let frames = [
+        register(0, 0, 2, one),
+        graded(10, 1, 2, one),
+        message(20, 2, one),
+        graded(30, 3, 1, one),
+        graded(30, 4, 0, one),
+        graded(10, 1, 3, &[(5, 0)]),
+        graded(30, 5, 3, one),
+        graded(40, 5, 2, one),
+        cancel(40, 3),
+        message(41, 3, one),
+        graded(50, 6, 2, &[(5, 1), (6, 1)]),
+    ];
+    let want = "1 0 00000001 0\nQ 0 0\n2 0 00000001 0\nQ 0 1 1 1000\n3 0 00000001 0\nQ 0 2 1 1000 2 1000\n4 0 00000001 0\nQ 0 2 1 1000 3 1000\n\
+                5 0 00000001 1\nQ 0 2 3 1000 4 1000\n6 14 00000000 0\n7 14 00000000 0\n8 0 00000001 1\nQ 0 2 5 1000 3 1000\n\
+                9 0 00000001 1\nQ 0 2 5 1000 4 1000\n10 0 00000001 0\nQ 0 2 5 1000 3 1000\n11 0 00000001 1\nQ 0 2 5 1000 3 1000\n";
     assert_eq!(session(&input(3, 100, &frames)), want);
 }
 
@@ -275,17 +305,20 @@ fn compare(style: Style, count: usize, seed: u64) {
 
 #[test]
 fn random_passage() {
-    compare(Style { capacity: 64, life: 200, terms: 40, counts: 9, serials: 200, queries: 32, step: 3, jump: 60, cancels: 18 }, 4000, 21);
+    let style = Style { capacity: 64, life: 200, terms: 40, counts: 9, serials: 200, queries: 32, entries: 16, step: 3, jump: 60, cancels: 18 };
+    compare(style, 4000, 21);
 }
 
 #[test]
 fn random_passage_of_many_messages() {
-    compare(Style { capacity: 256, life: 9000, terms: 12, counts: 4, serials: 700, queries: 6, step: 1, jump: 300, cancels: 18 }, 3000, 22);
+    let style = Style { capacity: 256, life: 9000, terms: 12, counts: 4, serials: 700, queries: 6, entries: 16, step: 1, jump: 300, cancels: 18 };
+    compare(style, 3000, 22);
 }
 
 #[test]
 fn random_passage_of_ties() {
-    compare(Style { capacity: 40, life: 300, terms: 2, counts: 1, serials: 120, queries: 10, step: 2, jump: 60, cancels: 18 }, 3000, 23);
+    let style = Style { capacity: 40, life: 300, terms: 2, counts: 1, serials: 120, queries: 10, entries: 16, step: 2, jump: 60, cancels: 18 };
+    compare(style, 3000, 24);
 }
 
 // ---- long inputs

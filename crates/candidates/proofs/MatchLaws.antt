@@ -1,5 +1,5 @@
 -- Matching stored messages is matching paper's. Assumes nothing.
-use Prim.Native.Nat.{ℕ, zero, suc, _+_, _-_, _%_, _≤_, _<_}
+use Prim.Native.Nat.{ℕ, zero, suc, _+_, _*_, _-_, _%_, _≤_, _<_}
 use native.Mathlib.Nat.{not-suc-le-zero}
 use native.Mathlib.Omega.{arith}
 use mathlib.Core.Path.{_≡_, refl, sym, ap, ap₂, _∙_}
@@ -9,23 +9,24 @@ use mathlib.Core.List.{List, [], _∷_, _++_, map, append-assoc, append-nil}
 use lib.Seq.{take-nil}
 use lib.Dec.{eqb, ltb}
 use borrow.Author.Tests.{ltb-true, lt-ltb, eqb-true, eqb-false}
-use Rattle.paper.specs.Frame.{Pair, Pairs, countWidth, mostPairs}
+use Rattle.paper.specs.Frame.{Pair, Pairs, level, countWidth, mostPairs}
 use Rattle.paper.specs.Impact.{impactIn, scoreBy, score}
 use Rattle.paper.specs.Order.{In, Ordered}
-use Rattle.paper.specs.Rank.{Query, Line, Entry, entry, line, lines, ranking}
+use Rattle.paper.specs.Rank.{Query, Entry, keyFactor, key, entry, ranking}
 use Rattle.paper.specs.Sort.{select, inserts}
 use Rattle.paper.specs.Sound.{Messages}
 use Rattle.paper.specs.Threshold.{exceeds, exceedsBy, reached}
 use Rattle.paper.specs.Window.{Message}
 use Rattle.paper.specs.Layout.{slots}
+use Rattle.paper.proofs.FrameLaws.{level-most}
 use Rattle.paper.proofs.RankLaws.{ranking-more}
 use Rattle.paper.proofs.SortLaws.{select-map, select-select}
 use Rattle.paper.proofs.Tests.{by-bool, and-true}
 use Rattle.paper.proofs.ThresholdLaws.{score-agree, exceeds-agree, score-most, exceeds-either, exceeds-none}
 use Rattle.impact.specs.Cell.{cellsOf, lookup}
 use Rattle.impact.proofs.CellLaws.{lookup-cells, rising-cells}
-use Rattle.rank.specs.Listing.{grown}
-use Rattle.rank.proofs.PaperLaws.{lines-grown}
+use Rattle.rank.specs.Listing.{Keyed, keyedEntry, keyed, keyedWith, grown}
+use Rattle.rank.proofs.PaperLaws.{keyed-grown}
 use Rattle.window.specs.Slot.{Slot, slot, stored, next, ring, live}
 use Rattle.window.specs.Table.{highest, greatest}
 use Rattle.window.proofs.SlotLaws.{silent-cells, live-in}
@@ -88,30 +89,32 @@ score-alone qs m v =
     score-agree (λ t. greatest t (map stored (m ∷ []))) (impactIn (m .pairs)) qs (λ p i. omega (arith, highest-stored m (v .1) (p .term)))
 
 -- messages put into a list one after the other are ranked: from the ranking of earlier ones on, and from nothing
-grows-on : (q : Query) (xs ms : List Message) → grows (q .k) (lines (ranking q xs)) (map (λ m. line (entry (score (q .terms)) m)) ms) ≡ lines (ranking q (xs ++ ms))
+grows-on : (q : Query) (xs ms : List Message) → grows (q .k) (keyed (ranking q xs)) (map (λ m. keyedEntry (entry (score (q .terms)) m)) ms) ≡ keyed (ranking q (xs ++ ms))
 unfolding grows
-grows-on q xs [] = ap (λ (l : List Message). lines (ranking q l)) (sym (append-nil xs))
+grows-on q xs [] = ap (λ (l : List Message). keyed (ranking q l)) (sym (append-nil xs))
 grows-on q xs (m ∷ ms) =
-    let one : grown (q .k) (line (entry (score (q .terms)) m)) (lines (ranking q xs)) ≡ lines (ranking q (xs ++ (m ∷ []))) =
-    sym (ap lines (ranking-more q xs m) ∙ lines-grown (q .k) (entry (score (q .terms)) m) (ranking q xs)) in
-    ap (λ (l : List Line). grows (q .k) l (map (λ m. line (entry (score (q .terms)) m)) ms)) one
+    let one : grown (q .k) (keyedEntry (entry (score (q .terms)) m)) (keyed (ranking q xs)) ≡ keyed (ranking q (xs ++ (m ∷ []))) =
+    sym (ap keyed (ranking-more q xs m) ∙ keyed-grown (q .k) (entry (score (q .terms)) m) (ranking q xs)) in
+    ap (λ (l : List Keyed). grows (q .k) l (map (λ m. keyedEntry (entry (score (q .terms)) m)) ms)) one
     ∙ grows-on q (xs ++ (m ∷ [])) ms
-    ∙ ap (λ (l : List Message). lines (ranking q l)) (append-assoc xs (m ∷ []) ms)
+    ∙ ap (λ (l : List Message). keyed (ranking q l)) (append-assoc xs (m ∷ []) ms)
 
-pub grows-ranking : (q : Query) (ms : List Message) → grows (q .k) [] (map (λ m. line (entry (score (q .terms)) m)) ms) ≡ lines (ranking q ms)
+pub grows-ranking : (q : Query) (ms : List Message) → grows (q .k) [] (map (λ m. keyedEntry (entry (score (q .terms)) m)) ms) ≡ keyed (ranking q ms)
 unfolding ranking select inserts
 grows-ranking q ms =
     let none : ranking q [] ≡ [] = take-nil (q .k) in
-    ap (λ (l : List Entry). grows (q .k) (lines l) (map (λ m. line (entry (score (q .terms)) m)) ms)) (sym none) ∙ grows-on q [] ms
+    ap (λ (l : List Entry). grows (q .k) (keyed l) (map (λ m. keyedEntry (entry (score (q .terms)) m)) ms)) (sym none) ∙ grows-on q [] ms
 
-lines-stored : (qs : List Pair) (ms : List Message) → Messages ms → map (scored qs) (map stored ms) ≡ map (λ m. line (entry (score qs) m)) ms
+keyed-stored : (qs : List Pair) (ms : List Message) → Messages ms → map (scored qs) (map stored ms) ≡ map (λ m. keyedEntry (entry (score qs) m)) ms
 unfolding stored
-lines-stored qs [] v = refl
-lines-stored qs (m ∷ ms) v =
-    ap₂ (λ (c : ℕ) (l : List Line). record { serial = m .serial; score = c } ∷ l) (score-stored qs m (v .1)) (lines-stored qs ms (v .2))
+keyed-stored qs [] v = refl
+keyed-stored qs (m ∷ ms) v =
+    let few = level-most (m .urgency) in
+    let k : scoreCells qs (cellsOf (m .pairs)) * keyFactor + level (m .urgency) % keyFactor ≡ key (entry (score qs) m) = omega (arith, score-stored qs m (v .1)) in
+    ap₂ (λ (c : ℕ) (l : List Keyed). keyedWith (m .serial) c ∷ l) k (keyed-stored qs ms (v .2))
 
-pub ranking-stored : (q : Query) (ms : List Message) → Messages ms → grows (q .k) [] (map (scored (q .terms)) (map stored ms)) ≡ lines (ranking q ms)
-ranking-stored q ms v = ap (grows (q .k) []) (lines-stored (q .terms) ms v) ∙ grows-ranking q ms
+pub ranking-stored : (q : Query) (ms : List Message) → Messages ms → grows (q .k) [] (map (scored (q .terms)) (map stored ms)) ≡ keyed (ranking q ms)
+ranking-stored q ms v = ap (grows (q .k) []) (keyed-stored (q .terms) ms v) ∙ grows-ranking q ms
 
 -- ---- the slots of the window
 

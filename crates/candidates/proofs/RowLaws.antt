@@ -11,20 +11,20 @@ use lib.ListN.{length, getD, set, take, drop, length-set, drop-of-length-le}
 use lib.Seq.{getD-set-same, getD-set-other, getD-take, take-set-le, take-suc-set, drop-cons, append-snoc, length-take-le}
 use lib.Dec.{eqb, ltb}
 use borrow.Author.Count.{below-more}
-use borrow.Author.Tests.{eqb-true, eqb-false, eq-eqb, ne-eqb, le-ltb, lt-ltb}
+use borrow.Author.Tests.{eqb-true, eqb-false, eq-eqb, ne-eqb, lt-leb, le-ltb, lt-ltb}
 use Rattle.paper.specs.Frame.{mostTerms}
 use Rattle.paper.specs.Layout.{slots}
 use Rattle.paper.specs.Order.{In}
-use Rattle.paper.specs.Rank.{Line}
 use Rattle.paper.specs.Sort.{select}
 use Rattle.paper.specs.Impact.{scoreBy}
+use Rattle.paper.specs.Rank.{keyFactor}
 use Rattle.paper.specs.Threshold.{exceedsBy}
 use Rattle.paper.specs.Write.{side-by-side}
 use Rattle.impact.specs.Cell.{cellTerm, cellImpact, lookup, RisingTerms}
 use Rattle.wire.specs.Bits.{val}
 use Rattle.paper.proofs.Tests.{by-bool, or-false}
 use Rattle.paper.proofs.SortLaws.{in-append, in-left, in-right}
-use Rattle.rank.specs.Listing.{grown}
+use Rattle.rank.specs.Listing.{Keyed, keyedWith, grown}
 use Rattle.rank.proofs.RemovedLaws.{select-both}
 use Rattle.window.specs.Slot.{slot, next, ring, live}
 use Rattle.window.specs.Table.{termLimit}
@@ -38,12 +38,6 @@ use Rattle.candidates.specs.Match.{scoreCells, exceedsCells}
 use Rattle.candidates.proofs.MatchLaws.{select-agree}
 use Rattle.candidates.proofs.WalkLaws.{flag-stands}
 use Rattle.candidates.specs.Rows.{Known, Placed, RowOf, Having, Gathered, Looked, among, shares}
-
--- a list whose place p is filled after those before it
-pub filled-more : (f : ℕ → ℕ) (xs : List ℕ) (p x : ℕ) → p < length xs → ((k : ℕ) → k < p → getD xs k 0 ≡ f k) → x ≡ f p
-    → (k : ℕ) → k < p + 1 → getD (set xs p x) k 0 ≡ f k
-filled-more f xs p x long all here =
-    below-more (λ (k : ℕ). getD (set xs p x) k 0 ≡ f k) p (λ k h. getD-set-other xs p k x 0 (λ e. omega arith) ∙ all k h) (getD-set-same xs p x 0 long ∙ here)
 
 -- ---- slots picked
 
@@ -293,28 +287,28 @@ exceeds-silent (suc n) (t ∷ ts) (v ∷ ws) (h ∷ hs) cs z =
     rw (z 0 (omega arith), le-ltb h 0 (omega arith)) (exceeds-silent n ts ws hs cs (λ p l. z (suc p) (suc-le-suc l)))
 
 -- a line of score 0 isn't listed
-grown-none : (k : ℕ) (e : Line) (l : List Line) → e .score ≡ 0 → grown k e l ≡ l
+grown-none : (k : ℕ) (e : Keyed) (l : List Keyed) → e .key < keyFactor → grown k e l ≡ l
 unfolding grown
-grown-none k e l z = rw z
+grown-none k e l z = rw (lt-leb keyFactor (e .key) z)
 
 -- lines of score 0 left out
-grows-select : (k : ℕ) (line : ℕ → Line) (test : ℕ → Bool) → ((j : ℕ) → test j ≡ false → line j .score ≡ 0) → (l : List Line) (js : List ℕ)
+grows-select : (k : ℕ) (line : ℕ → Keyed) (test : ℕ → Bool) → ((j : ℕ) → test j ≡ false → line j .key < keyFactor) → (l : List Keyed) (js : List ℕ)
     → grows k l (map line (select test js)) ≡ grows k l (map line js)
 unfolding grows select
 grows-select k line test none l [] = refl
 grows-select k line test none l (j ∷ js) = go (λ x. grows-select k line test none x js) (test j) refl
   where
-    go : ((x : List Line) → grows k x (map line (select test js)) ≡ grows k x (map line js)) → (b : Bool) → test j ≡ b
+    go : ((x : List Keyed) → grows k x (map line (select test js)) ≡ grows k x (map line js)) → (b : Bool) → test j ≡ b
         → grows k l (map line (cond b (j ∷ select test js) (select test js))) ≡ grows k (grown k (line j) l) (map line js)
     go ih true e = ih (grown k (line j) l)
-    go ih false e = ih l ∙ ap (λ (x : List Line). grows k x (map line js)) (sym (grown-none k (line j) l (none j e)))
+    go ih false e = ih l ∙ ap (λ (x : List Keyed). grows k x (map line js)) (sym (grown-none k (line j) l (none j e)))
 
 module _ {w : List ℕ} {q : Query} {js js′ : List ℕ} (by : Having w q js js′) (rising : Rising q) (known : Known q) where
   -- the same list
   pub having-grows : (k : ℕ) → grows k [] (map (lineIn w q) js′) ≡ grows k [] (map (lineIn w q) js)
   having-grows k =
       ap (λ (xs : List ℕ). grows k [] (map (lineIn w q) xs)) (by .kept)
-      ∙ grows-select k (lineIn w q) (by .test) (λ j e. score-silent (q .n) (q .terms) (q .weights) (slot w j .cells) (by .silent rising known j e)) [] js
+      ∙ grows-select k (lineIn w q) (by .test) (λ j e. omega (arith, score-silent (q .n) (q .terms) (q .weights) (slot w j .cells) (by .silent rising known j e))) [] js
 
   -- whoever is left out exceeds no threshold
   pub having-exceeds : (hs : List ℕ) (j : ℕ) → by .test j ≡ false → exceedsCells (termsOf q) hs (slot w j .cells) ≡ false
@@ -323,7 +317,7 @@ module _ {w : List ℕ} {q : Query} {js js′ : List ℕ} (by : Having w q js js
 -- ---- the messages looked at, one after the other
 
 -- the list of those left
-module _ (k : ℕ) (line : ℕ → Line) (js : List ℕ) (i : ℕ) (l : List Line) where
+module _ (k : ℕ) (line : ℕ → Keyed) (js : List ℕ) (i : ℕ) (l : List Keyed) where
   pub grows-next : i < length js → grows k (grown k (line (getD js i 0)) l) (map line (drop (i + 1) js)) ≡ grows k l (map line (drop i js))
   unfolding grows
   grows-next h = rw (drop-cons js i 0 h, add-one)
@@ -333,8 +327,8 @@ module _ (k : ℕ) (line : ℕ → Line) (js : List ℕ) (i : ℕ) (l : List Lin
   grows-end h = rw (drop-of-length-le js h)
 
 -- a line put into a list by its parts
-pub same-line : {s s′ v v′ : ℕ} (k : ℕ) (l : List Line) → s ≡ s′ → v ≡ v′ → grown k (record { serial = s; score = v }) l ≡ grown k (record { serial = s′; score = v′ }) l
-same-line k l e f = ap₂ (λ (s v : ℕ). grown k (record { serial = s; score = v }) l) e f
+pub same-line : {s s′ v v′ : ℕ} (k : ℕ) (l : List Keyed) → s ≡ s′ → v ≡ v′ → grown k (keyedWith s v) l ≡ grown k (keyedWith s′ v′) l
+same-line k l e f = ap₂ (λ (s v : ℕ). grown k (keyedWith s v) l) e f
 
 -- the slots have the flag that the test gives, and any other has that or none
 pub record Marked (test : ℕ → Bool) (xs r : List ℕ) : Type 0 where

@@ -7,11 +7,10 @@ use lib.ListN.{take, getD}
 use lib.Dec.{eqb}
 use Rattle.paper.specs.Frame.{Pair}
 use Rattle.paper.specs.Order.{In}
-use Rattle.paper.specs.Rank.{Line}
 use Rattle.paper.specs.Write.{side-by-side}
 use Rattle.wire.specs.Bits.{bits}
 use Rattle.impact.specs.Cell.{RisingTerms}
-use Rattle.rank.specs.Listing.{grown}
+use Rattle.rank.specs.Listing.{Keyed, grown}
 use Rattle.window.specs.Slot.{slot, ring}
 use Rattle.candidates.specs.declared.Query.{Query}
 use Rattle.candidates.specs.Match.{exceedsCells, scored}
@@ -47,11 +46,11 @@ pub record Without (fs : List ℕ) (o n : ℕ) (r : List ℕ) : Type 0 where
 abbrev pub exceedsIn : List ℕ → Query → List ℕ → ℕ → Bool
 exceedsIn w q hs j = exceedsCells (termsOf q) (take (q .n) hs) (slot w j .cells)
 
--- slot j's message in a list: its serial and score
-abbrev pub lineIn : List ℕ → Query → ℕ → Line
+-- slot j's message in a list: its serial and key
+abbrev pub lineIn : List ℕ → Query → ℕ → Keyed
 lineIn w q j = scored (termsOf q) (slot w j)
 
 -- a list with more lines put in, the earliest first
-unfoldable pub grows : ℕ → List Line → List Line → List Line
+unfoldable pub grows : ℕ → List Keyed → List Keyed → List Keyed
 grows k l [] = l
 grows k l (e ∷ es) = grows k (grown k e l) es

@@ -11,7 +11,7 @@ use Rattle.paper.specs.Sort.{select}
 use Rattle.wire.specs.Bits.{bits}
 use Rattle.impact.specs.Cell.{cellTerm, lookup}
 use Rattle.rank.specs.declared.Ranked.{Ranked}
-use Rattle.rank.specs.Listing.{linesOf, Tidy}
+use Rattle.rank.specs.Listing.{keyedOf, Tidy}
 use Rattle.window.specs.Slot.{slot, ring}
 use Rattle.window.specs.Table.{termLimit}
 use Rattle.window.specs.Rows.{rowWidth, Narrow}
@@ -94,7 +94,7 @@ pub record Looked (w js : List ℕ) (q : Query) (rows : List ℕ) : Type 0 where
 pub record RankedRows (w js : List ℕ) (q : Query) (rows : List ℕ) (r : Ranked) : Type 0 where
   pub within : r .count ≤ q .k
   pub tidy : Tidy r
-  pub right : Rows w js q rows → Rising q → Known q → linesOf r ≡ grows (q .k) [] (map (lineIn w q) js)
+  pub right : Rows w js q rows → Rising q → Known q → keyedOf r ≡ grows (q .k) [] (map (lineIn w q) js)
 
 -- the flags of those looked at that exceed one of the thresholds
 pub record SiftedRows (js : List ℕ) (q : Query) (rows hs r : List ℕ) : Type 0 where

@@ -1,5 +1,5 @@
 -- The kinds of frame: what each function's calls give together. Assumes nothing.
-use Prim.Native.Nat.{ℕ, suc, _+_, _-_, _%_, _≤_, _<_, _^_}
+use Prim.Native.Nat.{ℕ, suc, _+_, _-_, _≤_, _<_, _^_}
 use native.Mathlib.Nat.{add-zero}
 use native.Mathlib.Omega.{arith}
 use mathlib.Core.Path.{_≡_, refl, sym, ap, _∙_, subst, subst₂}
@@ -9,7 +9,7 @@ use mathlib.Core.List.{List, map}
 use lib.ListN.{getD}
 use lib.Dec.{ltb}
 use borrow.Author.Tests.{lt-ltb, le-ltb, ltb-true, ltb-false}
-use Rattle.paper.specs.Frame.{Frame, Pair, Valid, serialWidth}
+use Rattle.paper.specs.Frame.{Urgency, Form, Frame, Pair, Valid, gradeOf, serialWidth}
 use Rattle.paper.specs.Frame.Frame.{message, tick, cancel}
 use Rattle.paper.specs.Window.{arrival, mostMessages}
 use Rattle.paper.specs.Layout.{slots, lifeAt, clockAt, capacityAt}
@@ -116,31 +116,31 @@ tick-done {t = t} e h small k = record {
 
 -- ---- a message
 
-module _ (t s life clock o n : ℕ) (ps : List Pair) (w : List ℕ) (loaded : Loaded w clock o n) (life-is : life ≡ getD w lifeAt 0)
+module _ (t s life clock o n : ℕ) (g : Form) (ps : List Pair) (w : List ℕ) (loaded : Loaded w clock o n) (life-is : life ≡ getD w lifeAt 0)
     (clock₁ o₁ n₁ : ℕ) (adv : Advanced w life o n t clock₁ o₁ n₁) where
-  module _ (log : Log) (r : Represents log w) (late : log .clock ≤ t) (v : Valid (message t s ps)) where
-    pub message-judged : (b : Bool) → b ≡ holdsSerial s (window w o₁ n₁) → judgeFrame log (message t s ps) ≡ cond b 8 0
+  module _ (log : Log) (r : Represents log w) (late : log .clock ≤ t) (v : Valid (message t s g ps)) where
+    pub message-judged : (b : Bool) → b ≡ holdsSerial s (window w o₁ n₁) → judgeFrame log (message t s g ps) ≡ cond b 8 0
     message-judged b e =
-        judged-kind log (message t s ps) late
+        judged-kind log (message t s g ps) late
         ∙ ap (λ (c : Bool). cond {A = ℕ} c 8 0) (sym (e ∙ serial-in-force log t s (r .sound) (v .serial) (places-loaded loaded life-is adv log r late)))
 
     module _ (capacity clock₂ o′ n′ : ℕ) (capacity-is : capacity ≡ log .N) (roomy : Roomy capacity clock₁ o₁ n₁ clock₂ o′ n′)
-        (reply : Reply) (w₃ : List ℕ) (j : Joined (arrival t s ps) o n o′ n′ w reply w₃) (ok : judgeFrame log (message t s ps) ≡ 0) (room : n′ < mostMessages) where
+        (reply : Reply) (w₃ : List ℕ) (j : Joined (arrival t s (gradeOf g) ps) o n o′ n′ w reply w₃) (ok : judgeFrame log (message t s g ps) ≡ 0) (room : n′ < mostMessages) where
       moved-on : Moved (oldestOf w) (countOf w) o′ n′
       moved-on = subst₂ (λ (a b : ℕ). Moved a b o′ n′) (oldest-loaded loaded life-is adv log r) (count-loaded loaded life-is adv log r) (moved-trans (adv .moved) (roomy .moved))
 
-      joined-loaded : Joined (arrival t s ps) (oldestOf w) (countOf w) o′ n′ w reply w₃
+      joined-loaded : Joined (arrival t s (gradeOf g) ps) (oldestOf w) (countOf w) o′ n′ w reply w₃
       joined-loaded =
-          subst₂ (λ (a b : ℕ). Joined (arrival t s ps) a b o′ n′ w reply w₃) (oldest-loaded loaded life-is adv log r) (count-loaded loaded life-is adv log r) j
+          subst₂ (λ (a b : ℕ). Joined (arrival t s (gradeOf g) ps) a b o′ n′ w reply w₃) (oldest-loaded loaded life-is adv log r) (count-loaded loaded life-is adv log r) j
 
-      pub message-accepted : Accepted log (message t s ps) w reply w₃
+      pub message-accepted : Accepted log (message t s g ps) w reply w₃
       message-accepted =
           let k = joined-loaded in
           let low : o < slots = loaded .oldest-below in
-          plain-taken log (message t s ps) w r v ok (λ i m. refl) moved-on
+          plain-taken log (message t s g ps) w r v ok (λ i m. refl) moved-on
           (roomy-shows w log t (r .sound) (moved-below low (adv .moved)) (places-loaded loaded life-is adv log r late)
           (subst (λ (c : ℕ). Roomy c clock₁ o₁ n₁ clock₂ o′ n′) capacity-is roomy))
-          (joined w (oldestOf w) (countOf w) o′ n′ (r .oldest-below) (r .count-below) moved-on t s ps (k .written) (k .moved) room (k .message) (k .cursor))
+          (joined w (oldestOf w) (countOf w) o′ n′ (r .oldest-below) (r .count-below) moved-on t s g ps (k .written) (k .moved) room (k .message) (k .cursor))
           0 (k .followed) (λ q. (unfold accept in refl, refl)) reply refl (k .departures)
 
 -- there is room for one more
@@ -154,30 +154,33 @@ room-left {capacity} {clock} {o} {n} {clock′} {o′} {n′} cap r h = go (ltb 
     go false e false y = let k = ltb-false 0 n y in let m = r .moved .count-most in omega arith
 
 -- 8: "serial in force at the frame's time"
-pub known : {s : List ℕ} {r : Reply} {t serial life clock o n clock₁ o₁ n₁ : ℕ} {b : Bool} (ps : List Pair) → Loaded (words s) clock o n → life ≡ getD (words s) lifeAt 0
+pub known : {s : List ℕ} {r : Reply} {t serial life clock o n clock₁ o₁ n₁ : ℕ} {b : Bool} (g : Form) (ps : List Pair) → Loaded (words s) clock o n → life ≡ getD (words s) lifeAt 0
     → Advanced (words s) life o n t clock₁ o₁ n₁ → clock ≤ t → b ≡ holdsSerial serial (window (words s) o₁ n₁) → b ≡ true → Refusal 8 r
-    → Did (message t serial ps) s r s
-known {s} {r} {t} {serial} {life} {clock} {o} {n} {clock₁} {o₁} {n₁} {b} ps loaded life-is adv h e y z =
-    refused-by (message t serial ps) z
+    → Did (message t serial g ps) s r s
+known {s} {r} {t} {serial} {life} {clock} {o} {n} {clock₁} {o₁} {n₁} {b} g ps loaded life-is adv h e y z =
+    refused-by (message t serial g ps) z
     (λ log rep v.
     let l : log .clock ≤ t = let k = rep .clock in let m = loaded .clock-is in omega arith in
-    message-judged t serial life clock o n ps (words s) loaded life-is clock₁ o₁ n₁ adv log rep l v b e ∙ ap (λ (x : Bool). cond {A = ℕ} x 8 0) y)
+    message-judged t serial life clock o n g ps (words s) loaded life-is clock₁ o₁ n₁ adv log rep l v b e ∙ ap (λ (x : Bool). cond {A = ℕ} x 8 0) y)
 
 -- a message taken in
-pub message-done : {s s′ : List ℕ} {r : Reply} {t serial life clock o n clock₁ o₁ n₁ capacity clock₂ o′ n′ : ℕ} {b : Bool} {ps : List Pair}
-    → Loaded (words s) clock o n → life ≡ getD (words s) lifeAt 0 → Advanced (words s) life o n t clock₁ o₁ n₁ → clock ≤ t
+pub message-done : {s s′ : List ℕ} {r : Reply} {t serial life clock o n clock₁ o₁ n₁ capacity clock₂ o′ n′ : ℕ} {b : Bool} {u : Urgency} {ps : List Pair}
+    (g : Form) → gradeOf g ≡ u → Loaded (words s) clock o n → life ≡ getD (words s) lifeAt 0 → Advanced (words s) life o n t clock₁ o₁ n₁ → clock ≤ t
     → b ≡ holdsSerial serial (window (words s) o₁ n₁) → b ≡ false
     → (capacity ≤ mostMessages) × (getD (words s) capacityAt 0 ≤ mostMessages → capacity ≡ getD (words s) capacityAt 0)
     → Roomy capacity clock₁ o₁ n₁ clock₂ o′ n′
-    → Joined (arrival t serial ps) o n o′ n′ (words s) r (words s′) → n′ < mostMessages → Did (message t serial ps) s r s′
-message-done {s} {s′} {r} {t} {serial} {life} {clock} {o} {n} {clock₁} {o₁} {n₁} {capacity} {clock₂} {o′} {n′} {b} {ps} loaded life-is adv h e y cap roomy j room = record {
+    → Joined (arrival t serial u ps) o n o′ n′ (words s) r (words s′) → n′ < mostMessages → Did (message t serial g ps) s r s′
+message-done {s} {s′} {r} {t} {serial} {life} {clock} {o} {n} {clock₁} {o₁} {n₁} {capacity} {clock₂} {o′} {n′} {b} {u} {ps} g grade loaded life-is adv h e y cap roomy j room = record {
   unchanged = λ z. absurd (z (j .number));
   right = λ log rep v.
       let l : log .clock ≤ t = let k = rep .clock in let m = loaded .clock-is in omega arith in
       let c : capacity ≡ log .N = let k = rep .capacity in let m = rep .capacity-most in cap .1 (omega arith) ∙ k in
-      let ok : judgeFrame log (message t serial ps) ≡ 0 =
-      message-judged t serial life clock o n ps (words s) loaded life-is clock₁ o₁ n₁ adv log rep l v b e ∙ ap (λ (x : Bool). cond {A = ℕ} x 8 0) y in
-      (j .number ∙ sym ok, λ z. message-accepted t serial life clock o n ps (words s) loaded life-is clock₁ o₁ n₁ adv log rep l v capacity clock₂ o′ n′ c roomy r (words s′) j ok room);
+      let ok : judgeFrame log (message t serial g ps) ≡ 0 =
+      message-judged t serial life clock o n g ps (words s) loaded life-is clock₁ o₁ n₁ adv log rep l v b e ∙ ap (λ (x : Bool). cond {A = ℕ} x 8 0) y in (
+        j .number ∙ sym ok,
+        λ z. message-accepted t serial life clock o n g ps (words s) loaded life-is clock₁ o₁ n₁ adv log rep l v capacity clock₂ o′ n′ c roomy r (words s′)
+            (subst (λ (x : Urgency). Joined (arrival t serial x ps) o n o′ n′ (words s) r (words s′)) (sym grade) j) ok room,
+      );
 }
 
 -- ---- a cancellation

@@ -3,7 +3,7 @@ use Prim.Native.Nat.{ℕ, _≤_, _<_}
 use native.Mathlib.Omega.{arith}
 use mathlib.Core.Path.{_≡_, refl, sym, ap, _∙_}
 use mathlib.Core.Bool.{Bool, true, false, cond, not, true≢false}
-use mathlib.Core.List.{List, []}
+use mathlib.Core.List.{List, [], map}
 use mathlib.Core.Option.{Option, none, some}
 use lib.ListN.{length, getD, List·getD-eq-default}
 use lib.Dec.{eqb}
@@ -15,15 +15,16 @@ use Rattle.paper.specs.Log.{Log, queryAt, inUse, judgeList, seen}
 use Rattle.paper.specs.Log as Log
 use Rattle.memory.specs.Words.{words}
 use Rattle.rank.specs.declared.Ranked.{Ranked}
-use Rattle.rank.specs.Listing.{linesOf, Tidy, Empty}
-use Rattle.query.specs.Record.{list, HoldsAt, Holds}
+use Rattle.rank.specs.declared.Shown.{Shown}
+use Rattle.rank.specs.Listing.{keyedOf, shown, linesOf, Tidy, TidyShown, Nothing, Shows}
+use Rattle.query.specs.Record.{keys, HoldsAt, Holds}
 use Rattle.query.specs.Post.{LoadedList}
 use Rattle.engine.specs.Represents.{Represents, oldestOf, countOf}
 use Rattle.engine.specs.Post.{ListPost}
 use Rattle.engine.proofs.RepresentsLaws.{used}
 
 module _ (s : List ℕ) (n : ℕ) where
-  pub list-not-lent : {l : Ranked} → (length s ≡ stateLength → ⊥) → Empty l → ListPost s n (record { number = 12; list = l })
+  pub list-not-lent : {l : Shown} → (length s ≡ stateLength → ⊥) → Nothing l → ListPost s n (record { number = 12; list = l })
   list-not-lent h e = record {
     not-lent = λ _. refl;
     no-number = λ long. absurd (h long);
@@ -46,7 +47,7 @@ module _ (s : List ℕ) (n : ℕ) where
     listed-some log q e = rw (judged log (ap inUse e), e) refl
 
     -- the log has no such query
-    pub list-unused : {l : Ranked} → ((log : Log) → Represents log (words s) → inUse (queryAt log n) ≡ false) → Empty l → ListPost s n (record { number = 10; list = l })
+    pub list-unused : {l : Shown} → ((log : Log) → Represents log (words s) → inUse (queryAt log n) ≡ false) → Nothing l → ListPost s n (record { number = 10; list = l })
     list-unused absent e = record {
       not-lent = λ h. absurd (h long);
       no-number = λ _ _. refl;
@@ -66,25 +67,25 @@ module _ (s : List ℕ) (n : ℕ) where
 
       -- the list of the record is that of the log
       held : {l : Ranked} (log : Log) (q : Query) → LoadedList (words s) n l → Holds (words s) n (oldestOf (words s)) (countOf (words s)) (seen log q) q
-          → (linesOf l ≡ lines (ranking q (seen log q))) × Tidy l
-      unfolding list
+          → (map shown (keyedOf l) ≡ lines (ranking q (seen log q))) × Tidy l
+      unfolding keys
       held log q p k =
           let c = p .count-is (k .listed-most) in (
-            rw (c, p .serials, p .scores) (k .settled .ranked),
-            record { serials = rw (c, p .serials) (k .no-serial); scores = rw (c, p .scores) (k .no-score) },
+            rw (c, p .serials, p .keys) (k .settled .ranked),
+            record { serials = rw (c, p .serials) (k .no-serial); values = rw (c, p .keys) (k .no-key) },
           )
 
-      pub list-right : {l : Ranked} → b ≡ true → LoadedList (words s) n l → ListPost s n (record { number = 0; list = l })
-      list-right {l} e p = record {
+      pub list-right : {l : Ranked} {x : Shown} → b ≡ true → LoadedList (words s) n l → Shows l x → ListPost s n (record { number = 0; list = x })
+      list-right {l} {x} e p shows = record {
         not-lent = λ h. absurd (h long);
         no-number = λ _ k. absurd (omega arith);
-        most = p .count-most;
+        most = let c = p .count-most in omega (arith, shows .count);
         refused = λ k. absurd (k refl);
         right = λ log r _. go log (queryAt log n) refl (used log (words s) n r h test ∙ e) (r .records n h);
       }
         where
-          go : (log : Log) (x : Option Query) → queryAt log n ≡ x → inUse (queryAt log n) ≡ true
-              → HoldsAt (words s) n (oldestOf (words s)) (countOf (words s)) (seen log) x
-              → (0 ≡ judgeList 0 log (length s) 0 n) × (linesOf l ≡ Log.listed 0 log (length s) 0 n) × Tidy l
+          go : (log : Log) (y : Option Query) → queryAt log n ≡ y → inUse (queryAt log n) ≡ true
+              → HoldsAt (words s) n (oldestOf (words s)) (countOf (words s)) (seen log) y
+              → (0 ≡ judgeList 0 log (length s) 0 n) × (linesOf x ≡ Log.listed 0 log (length s) 0 n) × TidyShown x
           go log none is u k = absurd (true≢false (sym u ∙ ap inUse is))
-          go log (some q) is u k = let t = held log q p k in (sym (judged log u), t .0 ∙ listed-some log q is, t .1)
+          go log (some q) is u k = let t = held log q p k in (sym (judged log u), shows .list ∙ t .0 ∙ listed-some log q is, shows .tidy (t .1))

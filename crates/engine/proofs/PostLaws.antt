@@ -3,6 +3,7 @@ use Prim.Native.Nat.{ℕ, zero, suc, _+_, _-_, _*_, _≤_, _<_}
 use native.Mathlib.Omega.{arith}
 use mathlib.Core.Path.{_≡_, refl, sym, ap, _∙_, subst}
 use mathlib.Core.Bool.{Bool, true, false, cond, _&&_}
+use mathlib.Core.Logic.{⊎-elim}
 use mathlib.Core.List.{List}
 use lib.ListN.{length, getD, take, drop}
 use lib.Dec.{eqb}
@@ -76,7 +77,7 @@ not-lent s bytes r ne z = record {
   right = λ log rep l. absurd (ne l);
 }
 
--- 1 to 6
+-- 1 to 6 and 14
 pub misshapen : (s bytes : List ℕ) (r : Reply) (n : ℕ) → length s ≡ stateLength → shape bytes ≡ refused n → Refusal n r → FramePost s bytes r s
 misshapen s bytes r n l e z = record {
   long = refl;
@@ -84,7 +85,7 @@ misshapen s bytes r n l e z = record {
   shaped = λ k m f. z .0 ∙ (cc);
   unchanged = λ h. (refl, z .1, z .2);
   right = λ log rep k.
-      let p = positive n (shape-number bytes n e .0) in
+      let p = positive n (⊎-elim (λ h. h .0) (λ h. omega arith) (shape-number bytes n e)) in
       refused-right s bytes r (p .0) log rep (judged s bytes log l ∙ ap (judgeShape log) e ∙ p .1) (subst (λ (x : ℕ). Refusal x r) (p .1) z);
 }
 

@@ -1,5 +1,5 @@
 -- Header and arriving message written: what the records and the window before it see of that. Assumes nothing.
-use Prim.Native.Nat.{ℕ, _+_, _-_, _%_, _≤_, _<_}
+use Prim.Native.Nat.{ℕ, _+_, _-_, _%_, _<_}
 use native.Mathlib.Nat.{add-zero}
 use native.Mathlib.Numerals.{add-one}
 use native.Mathlib.Omega.{arith}
@@ -8,7 +8,7 @@ use mathlib.Core.Bool.{true, false, false≢true}
 use mathlib.Core.Logic.{inr}
 use mathlib.Core.List.{List, [], _∷_, _++_, map, append-nil}
 use lib.ListN.{length}
-use Rattle.paper.specs.Frame.{Frame, Pair}
+use Rattle.paper.specs.Frame.{Form, Frame, Pair, gradeOf}
 use Rattle.paper.specs.Frame.Frame.{message}
 use Rattle.paper.specs.Window.{Message, arrival, mostMessages}
 use Rattle.paper.specs.Log.{timeOf, arrivals}
@@ -64,10 +64,10 @@ module _ (w : List ℕ) (o n o′ n′ : ℕ) (low : o < slots) (few : n < slots
       false≢true (sym (outside o n low few) ∙ ap (inRing o n) (sym (h ∙ moved-end low moved)) ∙ e)
 
   -- a message arrives in the slot after the window
-  pub joined : (t s : ℕ) (ps : List Pair) (w₁ w₂ : List ℕ) → n′ < mostMessages
-      → Written ((o′ + n′) % slots) (arrival t s ps) w w₁ → PutCursor t o′ (n′ + 1) w₁ w₂
-      → Prepared (message t s ps) w o n o′ n′ ((o′ + n′) % slots) w₂
-  joined t s ps w₁ w₂ room a p =
+  pub joined : (t s : ℕ) (g : Form) (ps : List Pair) (w₁ w₂ : List ℕ) → n′ < mostMessages
+      → Written ((o′ + n′) % slots) (arrival t s (gradeOf g) ps) w w₁ → PutCursor t o′ (n′ + 1) w₁ w₂
+      → Prepared (message t s g ps) w o n o′ n′ ((o′ + n′) % slots) w₂
+  joined t s g ps w₁ w₂ room a p =
       let k = (o′ + n′) % slots in
       let small : k < slots = omega arith in
       let header : (j : ℕ) → slot w₂ j ≡ slot w₁ j = λ j. slot-kept (p .keeps) j (inr (omega arith)) in

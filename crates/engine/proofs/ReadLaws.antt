@@ -2,19 +2,21 @@
 use Prim.Native.Nat.{ℕ, zero, suc, _≤_, _<_, _^_}
 use native.Mathlib.Nat.{not-suc-le-zero, le-of-suc-le-suc, suc-inj, le-of-eq}
 use native.Mathlib.Omega.{arith}
-use mathlib.Core.Path.{_≡_, refl, sym, ap, _∙_}
+use mathlib.Core.Path.{_≡_, refl, sym, ap, _∙_, subst}
 use mathlib.Core.List.{List, [], _∷_}
 use lib.ListN.{length, getD, take}
-use Rattle.paper.specs.Frame.{Pair, Frame, Shape, AllFit, countWidth, weightWidth, termWidth, shape, mostPairs, mostTerms, mostListed, numbers, Pairs}
+use Rattle.paper.specs.Frame.{Pair, Frame, Shape, level, urgencyOf, AllFit, countWidth, weightWidth, termWidth, shape, mostPairs, mostTerms, mostListed, numbers, Pairs}
 use lib.Seq.{getD-take}
-use Rattle.paper.specs.Frame.Frame.{message, register}
-use Rattle.paper.specs.Frame.Shape.{accepted}
+use Rattle.paper.specs.Frame.Urgency.{vital}
+use Rattle.paper.specs.Frame.Form.{ungraded, graded}
+use Rattle.paper.specs.Frame.Frame.{message, tick, register, unregister, cancel}
+use Rattle.paper.specs.Frame.Shape.{refused, accepted}
 use Rattle.paper.specs.Write.{side-by-side}
-use Rattle.paper.proofs.FrameLaws.{shape-valid}
+use Rattle.paper.proofs.FrameLaws.{level-most, shape-valid}
 use Rattle.frame.specs.declared.Kind.{Kind}
-use Rattle.frame.specs.declared.Kind.the-variants.{Message, Register, Unregister}
+use Rattle.frame.specs.declared.Kind.the-variants.{Message, Tick, Register, Unregister, Cancel, Urgent, Refused}
 use Rattle.frame.specs.declared.Parsed.{Parsed}
-use Rattle.frame.specs.Read.{pairsRead, ReadPost}
+use Rattle.frame.specs.Read.{answerOf, pairsRead, ReadPost}
 use Rattle.frame.proofs.RoundTrip.{told, read-told, countIn, count-answer}
 
 -- two lists with as many pairs as is said: each is within its field
@@ -52,6 +54,25 @@ read-eight {bytes} {terms} {amounts} {ts} {us} {m} {w} {make} et eu r h = rw (et
   fit = λ i l. let k : i < 8 = omega arith in rw (getD-take 8 terms i 0 k, getD-take 8 amounts i 0 k) (r .fit i l);
 })
 
+-- the urgency that an answer says is one of the three
+abbrev urgencyIn : Kind → ℕ
+urgencyIn (Message t s m) = 0
+urgencyIn (Tick t) = 0
+urgencyIn (Register t n k m) = 0
+urgencyIn (Unregister t n) = 0
+urgencyIn (Cancel t s) = 0
+urgencyIn (Urgent t s u m) = u
+urgencyIn (Refused r) = 0
+
+urgency-answer : (x : Shape) → urgencyIn (answerOf x) ≤ level vital
+urgency-answer (accepted (message t s ungraded ps)) = omega arith
+urgency-answer (accepted (message t s (graded u) ps)) = level-most u
+urgency-answer (accepted (tick t)) = omega arith
+urgency-answer (accepted (register t n k ps)) = omega arith
+urgency-answer (accepted (unregister t n)) = omega arith
+urgency-answer (accepted (cancel t s)) = omega arith
+urgency-answer (refused r) = omega arith
+
 module _ (bytes : List ℕ) (r : Parsed) (post : ReadPost (shape bytes) r) where
   -- bytes that are answered with k are the frame, or the refusal, that k tells
   pub read-as : (k : Kind) → r .what ≡ k → shape bytes ≡ told k (r .terms) (r .amounts)
@@ -70,10 +91,19 @@ module _ (bytes : List ℕ) (r : Parsed) (post : ReadPost (shape bytes) r) where
       let u = p .at-most in
       record { is = is; least = omega arith; most = omega arith; fit = within w m (r .terms) (r .amounts) (p .fit) n }
 
-  pub read-message : (t s m : ℕ) → r .what ≡ Message t s m → Read bytes (r .terms) (r .amounts) m countWidth (message t s)
+  pub read-message : (t s m : ℕ) → r .what ≡ Message t s m → Read bytes (r .terms) (r .amounts) m countWidth (message t s ungraded)
   read-message t s m e =
       let is = read-as (Message t s m) e in
-      read-pairs m countWidth mostPairs (message t s) is (read-count (Message t s m) e) (shape-valid bytes _ is .pairs) (omega arith)
+      read-pairs m countWidth mostPairs (message t s ungraded) is (read-count (Message t s m) e) (shape-valid bytes _ is .pairs) (omega arith)
+
+  -- the number that it says is its urgency's
+  pub read-urgent : (t s u m : ℕ) → r .what ≡ Urgent t s u m
+      → Read bytes (r .terms) (r .amounts) m countWidth (message t s (graded (urgencyOf u))) × (u ≤ level vital)
+  read-urgent t s u m e =
+      let is = read-as (Urgent t s u m) e in (
+        read-pairs m countWidth mostPairs (message t s (graded (urgencyOf u))) is (read-count (Urgent t s u m) e) (shape-valid bytes _ is .pairs) (omega arith),
+        subst (λ (k : Kind). urgencyIn k ≤ level vital) (sym (post .what) ∙ e) (urgency-answer (shape bytes)),
+      )
 
   pub read-register : (t n k m : ℕ) → r .what ≡ Register t n k m
       → Read bytes (r .terms) (r .amounts) m weightWidth (register t n k) × (n < numbers) × (1 ≤ k) × (k ≤ mostListed) × (m ≤ mostTerms)

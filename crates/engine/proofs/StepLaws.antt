@@ -1,5 +1,5 @@
 -- An accepted frame: how the window of a log changes, and that memory then holds the log after it. Assumes nothing.
-use Prim.Native.Nat.{ℕ, _+_, _-_, _%_, _≤_, _<_, _^_}
+use Prim.Native.Nat.{ℕ, _+_, _-_, _%_, _≤_, _<_}
 use native.Mathlib.Nat.{le-refl}
 use native.Mathlib.Omega.{arith}
 use mathlib.Core.Path.{_≡_, refl, sym, ap, ap₂, _∙_, subst, subst₂}
@@ -207,7 +207,7 @@ module _ (log : Log) (w : List ℕ) (r : Represents log w) (t more : ℕ) (late 
 -- ---- a frame that cancels nothing
 
 arrivals-held : (f : Frame) → map held (arrivals f) ≡ map stored (arrivals f)
-arrivals-held (message t s ps) = refl
+arrivals-held (message t s g ps) = refl
 arrivals-held (tick t) = refl
 arrivals-held (register t n k ps) = refl
 arrivals-held (unregister t n) = refl

@@ -2,7 +2,7 @@
 use Prim.Native.Nat.{ℕ, _<_}
 use mathlib.Core.Path.{_≡_, refl, sym, ap, _∙_, subst}
 use mathlib.Core.Bool.{false}
-use mathlib.Core.List.{List}
+use mathlib.Core.List.{List, map}
 use mathlib.Core.Option.{Option, none, some}
 use lib.ListN.{length}
 use lib.Seq.{getD-set-other}
@@ -18,8 +18,9 @@ use Rattle.paper.specs.Demand3.{names, reachedBy, marked}
 use Rattle.paper.proofs.Tests.{or-false}
 use Rattle.paper.proofs.LogLaws.{sees}
 use Rattle.paper.proofs.ThresholdLaws.{same-candidates}
-use Rattle.query.specs.Record.{keptOf, thresholds, list, Holds, HoldsAt, SameRecord}
-use Rattle.query.proofs.RecordLaws.{thresholds-same, list-same}
+use Rattle.rank.specs.Listing.{shown}
+use Rattle.query.specs.Record.{keptOf, thresholds, Holds, HoldsAt, SameRecord}
+use Rattle.query.proofs.RecordLaws.{thresholds-same, keys-same}
 use Rattle.engine.specs.Represents.{oldestOf, countOf, Represents, keeping}
 use Rattle.engine.specs.Inner.{reachedIn}
 use Rattle.engine.proofs.RepresentsLaws.{query-terms, kept-none, kept-some, reached-by}
@@ -36,12 +37,12 @@ module _ (w w′ : List ℕ) (q : ℕ) (long : length w′ ≡ length w) (same :
       ∙ ap (λ (u : List ℕ). serials (candidates (x .terms) u ms′)) hs
       ∙ ap serials (sym c)
       ∙ sym (h .settled .above) in
-      λ i. record { thresholds = hs i; candidates = those i; list = list-same w w′ q long same i }
+      λ i. record { thresholds = hs i; candidates = those i; list = map shown (keys-same w w′ q long same i) }
 
 -- a frame that doesn't name a number leaves its query
 query-stays : (log : Log) (f : Frame) (q : ℕ) → names f q ≡ false → queryAt (accept log f) q ≡ queryAt log q
 unfolding accept
-query-stays log (message t s ps) q e = refl
+query-stays log (message t s g ps) q e = refl
 query-stays log (tick t) q e = refl
 query-stays log (register t m k ps) q e = getD-set-other (log .queries) m q (some (record { k = k; terms = ps })) none (λ h. eqb-false m q e (sym h))
 query-stays log (unregister t m) q e = getD-set-other (log .queries) m q none none (λ h. eqb-false m q e (sym h))

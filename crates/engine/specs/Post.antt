@@ -11,7 +11,7 @@ use Rattle.paper.specs.Log.{Log, Call, judgeStart, after, judgeList, listed, po
 use Rattle.paper.specs.Demand3.{replyTo, markedBy}
 use Rattle.paper.specs.Demand3 as Demand3
 use Rattle.memory.specs.Words.{words, putWord}
-use Rattle.rank.specs.Listing.{linesOf, Tidy}
+use Rattle.rank.specs.Listing.{linesOf, TidyShown}
 use Rattle.posting.specs.Lines.{lineBytes}
 use Rattle.engine.specs.declared.Reply.{Reply}
 use Rattle.engine.specs.declared.Listing.{Listing}
@@ -51,7 +51,8 @@ pub record FrameRight (log : Log) (s bytes : List ℕ) (r : Reply) (s′ : List 
   pub untouched : (q : ℕ) → q < numbers → markedBy 0 log (keeping (words s)) (callOf s bytes) q ≡ false
       → (recordBytes s′ q ≡ recordBytes s q) × (keeping (words s′) q ≡ keeping (words s) q)
 
--- "Order for a frame: state length (12), then 1 to 10", 13 in the place of 8. Whatever the memory holds, 12 and 1 to 6 are by the lengths and bytes alone, and
+-- "Order for a frame: state length (12), then 1 to 10", 14 between 4 and 5 and 13 in the place of 8. Whatever the memory holds, 12, 1 to 6 and 14 are by the
+-- lengths and bytes alone, and
 -- "A refusal returns its number, all else returned is 0, and no memory changes."
 pub record FramePost (s bytes : List ℕ) (r : Reply) (s′ : List ℕ) : Type 0 where
   pub long : length s′ ≡ length s
@@ -67,9 +68,9 @@ pub record ListPost (s : List ℕ) (n : ℕ) (r : Listing) : Type 0 where
   pub not-lent : (length s ≡ stateLength → ⊥) → r .number ≡ 12
   pub no-number : length s ≡ stateLength → numbers ≤ n → r .number ≡ 10
   pub most : r .list .count ≤ mostListed
-  pub refused : (r .number ≡ 0 → ⊥) → (linesOf (r .list) ≡ []) × Tidy (r .list)
+  pub refused : (r .number ≡ 0 → ⊥) → (linesOf (r .list) ≡ []) × TidyShown (r .list)
   pub right : (log : Log) → Represents log (words s) → length s ≡ stateLength
-      → (r .number ≡ judgeList 0 log (length s) 0 n) × (linesOf (r .list) ≡ listed 0 log (length s) 0 n) × Tidy (r .list)
+      → (r .number ≡ judgeList 0 log (length s) 0 n) × (linesOf (r .list) ≡ listed 0 log (length s) 0 n) × TidyShown (r .list)
 
 -- the postings, and then what stood there before: "Output past what a call writes is unchanged."
 abbrev pub postedInto : Log → ℕ → List ℕ → List ℕ

@@ -3,7 +3,8 @@ ghost use mathlib.Core.Path.{_≡_};
 ghost use Prim.Native.Nat.{ℕ, _+_, _%_, _<_, _≤_, _^_};
 ghost use mathlib.Core.List.{map};
 ghost use lib.ListN.{length, getD, replicate, take};
-ghost use Rattle.paper.specs.Frame.{Frame, numbers, termWidth, countWidth, weightWidth, mostPairs, mostTerms, mostListed};
+ghost use Rattle.paper.specs.Frame.{Form, Frame, level, urgencyOf, gradeOf, numbers, termWidth, countWidth, weightWidth, mostPairs, mostTerms, mostListed};
+ghost use Rattle.paper.specs.Frame.Urgency.{vital};
 ghost use Rattle.paper.specs.Write.{side-by-side};
 ghost use Rattle.paper.specs.Window.{mostMessages, arrival};
 ghost use Rattle.paper.specs.Layout.{stateLength, slots, capacityAt};
@@ -19,13 +20,16 @@ use frame::Kind;
 use paper::MOST_PAIRS;
 use paper::layout;
 use query::Move;
-use rank::Ranked;
+use rank::Shown;
 use window::Cursor;
 
 // How many query numbers and how many terms there are, beside numbers and terms of 32 bits.
 const NUMBERS: u32 = paper::NUMBERS as u32;
 
 const TERMS: u32 = paper::TERMS as u32;
+
+// The urgency of a message that says none.
+const ROUTINE: u32 = 0;
 
 pub struct Reply {
     pub number: u32,
@@ -35,7 +39,7 @@ pub struct Reply {
 
 pub struct Listing {
     pub number: u32,
-    pub list: Ranked,
+    pub list: Shown,
 }
 
 pub struct Found {
@@ -180,14 +184,15 @@ fn join(
     after: Cursor,
     time: u32,
     serial: u32,
+    urgency: u32,
     m: usize,
     terms: [u32; MOST_PAIRS],
     counts: [u32; MOST_PAIRS],
 ) -> Reply
-    requires { ⌜ (length (now state) ≡ stateLength) × (m ≤ mostPairs) ⌝ }
+    requires { ⌜ (length (now state) ≡ stateLength) × (urgency ≤ level vital) × (m ≤ mostPairs) ⌝ }
     requires { ⌜ ((i : ℕ) → i < m → (getD terms i 0 < 2 ^ termWidth) × (getD counts i 0 < 2 ^ countWidth)) ⌝ }
     requires { ⌜ (before .oldest < slots) × (before .count < slots) × (after .count < mostMessages) × Moved (before .oldest) (before .count) (after .oldest) (after .count) ⌝ }
-    ensures { λ r. ⌜ Joined (arrival time serial (side-by-side m terms counts))
+    ensures { λ r. ⌜ Joined (arrival time serial (urgencyOf urgency) (side-by-side m terms counts))
         (before .oldest) (before .count) (after .oldest) (after .count) (words (now (state .entry))) r (words (now (state .exit))) ⌝ }
 {
     let gone = before.oldest;
@@ -196,7 +201,7 @@ fn join(
     let leaving = before.count - count;
     let departures = window::in_force(state, gone, leaving);
     let newest = (oldest + count) % layout::SLOTS;
-    window::put_message(state, newest, time, serial, m, terms, counts);
+    window::put_message(state, newest, time, serial, urgency, m, terms, counts);
     window::put_cursor(state, time, oldest, count + 1);
     let moved = Move {
         gone,
@@ -215,18 +220,20 @@ fn join(
     }
 }
 
+// A message in either form: what it says of its urgency is all that it differs in.
 fn message(
     state: &mut [u8],
     time: u32,
     serial: u32,
+    urgency: u32,
     m: usize,
     terms: [u32; MOST_PAIRS],
     counts: [u32; MOST_PAIRS],
 ) -> Reply
-    requires { ⌜ length (now state) ≡ stateLength ⌝ }
+    requires { ⌜ (length (now state) ≡ stateLength) × (urgency ≤ level vital) ⌝ }
     requires { ⌜ (1 ≤ m) × (m ≤ mostPairs) ⌝ }
     requires { ⌜ ((i : ℕ) → i < m → (getD terms i 0 < 2 ^ termWidth) × (getD counts i 0 < 2 ^ countWidth)) ⌝ }
-    ensures { λ r. ⌜ Did (Frame.message time serial (side-by-side m terms counts)) (now (state .entry)) r (now (state .exit)) ⌝ }
+    ensures { λ r. ⌜ ((g : Form) → gradeOf g ≡ urgencyOf urgency → Did (Frame.message time serial g (side-by-side m terms counts)) (now (state .entry)) r (now (state .exit))) ⌝ }
 {
     let before = Cursor::load(state);
     if time < before.clock {
@@ -238,7 +245,17 @@ fn message(
         return refused(8);
     }
     let after = aged.roomy(capacity_of(state));
-    join(state, before, after, time, serial, m, terms, counts)
+    join(
+        state,
+        before,
+        after,
+        time,
+        serial,
+        urgency,
+        m,
+        terms,
+        counts,
+    )
 }
 
 // The window without its oldest messages, and without that of slot `cancelled`, which has this serial, where that is one; the departures of the oldest.
@@ -394,7 +411,7 @@ pub fn frame(state: &mut [u8], bytes: &[u8]) -> Reply
             time,
             serial,
             pairs,
-        } => message(state, time, serial, pairs, terms, amounts),
+        } => message(state, time, serial, ROUTINE, pairs, terms, amounts),
         Kind::Tick { time } => tick(state, time),
         Kind::Register {
             time,
@@ -408,6 +425,12 @@ pub fn frame(state: &mut [u8], bytes: &[u8]) -> Reply
         }
         Kind::Unregister { time, number } => unregister(state, time, number as usize),
         Kind::Cancel { time, serial } => cancel(state, time, serial),
+        Kind::Urgent {
+            time,
+            serial,
+            urgency,
+            pairs,
+        } => message(state, time, serial, urgency, pairs, terms, amounts),
         Kind::Refused(r) => refused(r),
     }
 }
@@ -418,25 +441,25 @@ pub fn list(state: &[u8], number: u32) -> Listing
     if state.len() != layout::STATE {
         return Listing {
             number: 12,
-            list: Ranked::none(),
+            list: Shown::none(),
         };
     }
     if NUMBERS <= number {
         return Listing {
             number: 10,
-            list: Ranked::none(),
+            list: Shown::none(),
         };
     }
     let q = number as usize;
     if !query::in_use(state, q) {
         return Listing {
             number: 10,
-            list: Ranked::none(),
+            list: Shown::none(),
         };
     }
     Listing {
         number: 0,
-        list: query::load_list(state, q),
+        list: Shown::of(query::load_list(state, q)),
     }
 }
 

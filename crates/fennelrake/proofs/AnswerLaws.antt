@@ -14,11 +14,11 @@ use Rattle.memory.specs.Words.{bigWords, putBig}
 use Rattle.memory.specs.Keeps.{Keeps, Stored}
 use Rattle.memory.proofs.WordLaws.{put-big, put-big-length, big-words-length, big-append}
 use Rattle.memory.proofs.KeepsLaws.{keeps-trans, keeps-wider, keeps-part, big-keeps}
-use Rattle.rank.specs.Listing.{listed, linesOf, Tidy}
+use Rattle.rank.specs.Listing.{listed, linesOf, TidyShown}
 use Rattle.engine.specs.declared.Reply.{Reply}
 use Rattle.engine.specs.declared.Listing.{Listing}
 use Rattle.engine.specs.Post.{FramePost, ListPost}
-use Rattle.fennelrake.specs.Entry.{frameAnswer, listAnswer, Output, heardReply, heardRanked, noEntry, heardListing, FrameEntry, ListEntry}
+use Rattle.fennelrake.specs.Entry.{frameAnswer, listAnswer, Output, heardReply, heardList, noEntry, heardListing, FrameEntry, ListEntry}
 
 output-same : (written number : ℕ) (a : List ℕ) → Output written number a a
 output-same written number a = record { long = refl; past = refl; refused = λ _. refl }
@@ -90,8 +90,8 @@ zeros zero i = refl
 zeros (suc n) zero = refl
 zeros (suc n) (suc i) = zeros n i
 
-pub none-tidy : Tidy noEntry
-none-tidy = record { serials = λ i _. zeros mostListed i; scores = λ i _. zeros mostListed i }
+pub none-tidy : TidyShown noEntry
+none-tidy = record { serials = λ i _. zeros mostListed i; values = λ i _. zeros mostListed i }
 
 none-listed : linesOf noEntry ≡ []
 unfolding listed
@@ -131,8 +131,8 @@ list-words a {a₁} {w₂} {w₃} {serials} {scores} {count} l f e p q =
 
 module _ (part a : List ℕ) (r : Listing) (h : listAnswer ≤ length a) (lp : length part ≡ listAnswer) (ls : length (r .list .serials) ≡ mostListed)
     (lc : length (r .list .scores) ≡ mostListed) (e : bigWords part ≡ r .list .count ∷ (r .list .serials ++ r .list .scores)) where
-  heard-ranked : r .list ≡ heardRanked (bigWords (part ++ drop listAnswer a))
-  heard-ranked =
+  heard-list : r .list ≡ heardList (bigWords (part ++ drop listAnswer a))
+  heard-list =
       let ss : List ℕ = r .list .serials in
       let cs : List ℕ = r .list .scores in
       let rest : List ℕ = bigWords (drop listAnswer a) in
@@ -155,4 +155,4 @@ module _ (part a : List ℕ) (r : Listing) (h : listAnswer ≤ length a) (lp : l
       })
     where
       same : r ≡ heardListing 0 (part ++ drop listAnswer a)
-      same = λ i. record { number = z i; list = heard-ranked i }
+      same = λ i. record { number = z i; list = heard-list i }

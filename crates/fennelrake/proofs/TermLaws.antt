@@ -80,19 +80,20 @@ long-cut n m ts h = go (leb n (length ts)) refl
 
 -- the fields with these terms for their own
 abbrev pub withTerms : Fields → List ℕ → Fields
-withTerms x ts = fields (x .kind) (x .time) (x .serial) (x .number) (x .k) (x .pairs) ts (x .amounts)
+withTerms x ts = fields (x .kind) (x .time) (x .serial) (x .urgency) (x .number) (x .k) (x .pairs) ts (x .amounts)
 
 module _ (x : Fields) where
   -- no kind needs more than sixteen terms, if those with pairs don't
   abbrev Cut : ℕ → Type 0
   Cut k = fromKind k (withTerms x (take 16 (x .terms))) ≡ fromKind k x
 
-  by-pairs : Cut 1 → Cut 3 → (k : ℕ) → Cut k
+  by-pairs : Cut 1 → Cut 3 → Cut 6 → (k : ℕ) → Cut k
   unfolding fromKind rowOf headWithin
-  by-pairs message register =
+  by-pairs message register urgent =
       by-kind Cut message (rw (long-cut 0 16 (x .terms) (omega arith), beside-cut 0 16 (x .terms) (x .amounts) (omega arith)))
       register (rw (long-cut 0 16 (x .terms) (omega arith), beside-cut 0 16 (x .terms) (x .amounts) (omega arith)))
       (rw (long-cut 0 16 (x .terms) (omega arith), beside-cut 0 16 (x .terms) (x .amounts) (omega arith)))
+      urgent
       (λ k none. unknown-kind (withTerms x (take 16 (x .terms))) k none ∙ sym (unknown-kind x k none))
 
   few-cut : x .pairs ≤ 16 → (k : ℕ) → Cut k
@@ -100,10 +101,13 @@ module _ (x : Fields) where
   few-cut h =
       by-pairs (rw (long-cut (x .pairs) 16 (x .terms) h, beside-cut (x .pairs) 16 (x .terms) (x .amounts) h))
       (rw (long-cut (x .pairs) 16 (x .terms) h, beside-cut (x .pairs) 16 (x .terms) (x .amounts) h))
+      (rw (long-cut (x .pairs) 16 (x .terms) h, beside-cut (x .pairs) 16 (x .terms) (x .amounts) h))
 
   many-cut : 16 < x .pairs → (k : ℕ) → Cut k
   unfolding fromKind rowOf headWithin
-  many-cut h = by-pairs (rw (lt-leb (x .pairs) 16 h) (simp and-false)) (rw (lt-leb (x .pairs) 8 (omega arith)) (simp and-false))
+  many-cut h =
+      by-pairs (rw (lt-leb (x .pairs) 16 h) (simp and-false)) (rw (lt-leb (x .pairs) 8 (omega arith)) (simp and-false))
+      (rw (lt-leb (x .pairs) 16 h) (simp and-false))
 
   fields-cut : fromFields (withTerms x (take 16 (x .terms))) ≡ fromFields x
   fields-cut = go (leb (x .pairs) 16) refl

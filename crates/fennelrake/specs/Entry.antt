@@ -8,7 +8,7 @@ use lib.ListN.{length, getD, take, drop, replicate}
 use lib.Dec.{eqb}
 use Rattle.paper.specs.Frame.{mostListed}
 use Rattle.memory.specs.Words.{bigWords}
-use Rattle.rank.specs.declared.Ranked.{Ranked}
+use Rattle.rank.specs.declared.Shown.{Shown}
 use Rattle.frame.specs.declared.Written.{Written}
 use Rattle.engine.specs.declared.Reply.{Reply}
 use Rattle.engine.specs.declared.Listing.{Listing}
@@ -47,14 +47,14 @@ pub record FrameEntry (s bytes a : List ℕ) (r : ℕ) (s′ a′ : List ℕ) : 
 -- ---- list
 
 -- the number of entries is the first word of the answer, then the serials, then the scores; no entry with a refusal
-abbrev pub heardRanked : List ℕ → Ranked
-heardRanked w = record { serials = take mostListed (drop 1 w); scores = take mostListed (drop (1 + mostListed) w); count = getD w 0 0 }
+abbrev pub heardList : List ℕ → Shown
+heardList w = record { serials = take mostListed (drop 1 w); scores = take mostListed (drop (1 + mostListed) w); count = getD w 0 0 }
 
-abbrev pub noEntry : Ranked
+abbrev pub noEntry : Shown
 noEntry = record { serials = replicate mostListed 0; scores = replicate mostListed 0; count = 0 }
 
 abbrev pub heardListing : ℕ → List ℕ → Listing
-heardListing r a = record { number = r; list = cond (eqb r 0) (heardRanked (bigWords a)) noEntry }
+heardListing r a = record { number = r; list = cond (eqb r 0) (heardList (bigWords a)) noEntry }
 
 pub record ListEntry (s : List ℕ) (n : ℕ) (a : List ℕ) (r : ℕ) (a′ : List ℕ) : Type 0 where
   pub short : length a < listAnswer → r ≡ 12

@@ -119,6 +119,7 @@ pub extern "C" fn fennelrake_write(
     kind: u32,
     time: u32,
     serial: u32,
+    urgency: u32,
     number: u32,
     k: u32,
     pairs: u32,
@@ -126,7 +127,7 @@ pub extern "C" fn fennelrake_write(
     amounts: &[u8],
     out: &mut [u8],
 ) -> u64
-    ensures { λ r. ⌜ WritePost (fromFields (fields kind time serial number k pairs (termsOf (now (terms .entry))) (now (amounts .entry)))) (now (out .entry)) (now (out .exit)) (heardWriting r) ⌝ }
+    ensures { λ r. ⌜ WritePost (fromFields (fields kind time serial urgency number k pairs (termsOf (now (terms .entry))) (now (amounts .entry)))) (now (out .entry)) (now (out .exit)) (heardWriting r) ⌝ }
 {
     let count = at_most_16(terms.len() / 2);
     let first = first_terms(terms, count);
@@ -135,6 +136,7 @@ pub extern "C" fn fennelrake_write(
         kind,
         time,
         serial,
+        urgency,
         number,
         k,
         pairs as usize,

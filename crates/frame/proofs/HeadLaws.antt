@@ -4,7 +4,7 @@ use native.Mathlib.Nat.{not-suc-le-zero, le-of-suc-le-suc, mul-le-mul}
 use native.Mathlib.Numerals.{add-one}
 use native.Mathlib.Omega.{arith}
 use mathlib.Core.Path.{_≡_, refl, sym, ap, _∙_, subst}
-use mathlib.Core.Bool.{Bool, true, false, cond, _&&_}
+use mathlib.Core.Bool.{Bool, true, false, cond, _&&_, and-true}
 use mathlib.Core.List.{List, [], _∷_, _++_, map, append-nil}
 use lib.ListN.{length, take, drop, getD, set}
 use lib.Seq.{take-suc, drop-cons, length-take-le}
@@ -16,9 +16,11 @@ use Rattle.wire.specs.Field.{field, placed, total, spell, scan}
 use Rattle.wire.proofs.BitLaws.{length-bits}
 use Rattle.wire.proofs.FieldLaws.{field-lt}
 use Rattle.wire.proofs.LayoutLaws.{total-append, scan-append, spell-append}
-use Rattle.paper.specs.Frame.{Pair, Row as TableRow, kindWidth, width, widths, rowOf, valuesAt, pairsBy, frameOf, termWidth}
+use Rattle.paper.specs.Frame.{Pair, Field, Row as TableRow, kindWidth, width, widths, rowOf, valuesAt, pairsBy, messageRow, tickRow, registerRow, unregisterRow, cancelRow, gradedRow, gradeKnown, gradesKnown, frameOf, termWidth}
+use Rattle.paper.specs.Frame.Field.{plain, lessOne as lessOneField, grade}
 use Rattle.paper.specs.Write.{within}
 use Rattle.paper.proofs.FrameLaws.{by-kind}
+use Rattle.paper.proofs.WriteLaws.{and-left, and-right}
 use Rattle.frame.specs.declared.Row.{Row}
 use Rattle.frame.specs.Read.{Narrow, RowWith, RowPost, padded}
 use Rattle.frame.specs.Write.{fitting, lessOne, laid}
@@ -31,7 +33,7 @@ use Rattle.frame.proofs.PairLaws.{padded-more}
 pub record Small (s : List ℕ) (row : TableRow) : Type 0 where
   pub places : length (row .head) ≤ 5
   pub narrow : Narrow (map width (row .head))
-  pub short : total (widths row) ≤ 60
+  pub short : total (widths row) ≤ 62
   pub light : row .amount ≤ 8
   pub few : pairsBy row (valuesAt s row) ≤ 16
   pub third : getD (valuesAt s row) 2 0 < 16
@@ -59,6 +61,14 @@ small s =
     })
     (record { places = lit≤ tt; narrow = (lit≤ tt, (lit≤ tt, tt)); short = lit≤ tt; light = lit≤ tt; few = lit≤ tt; third = lit< tt })
     (record { places = lit≤ tt; narrow = (lit≤ tt, (lit≤ tt, tt)); short = lit≤ tt; light = lit≤ tt; few = lit≤ tt; third = lit< tt })
+    (record {
+      places = lit≤ tt;
+      narrow = (lit≤ tt, (lit≤ tt, (lit≤ tt, (lit≤ tt, tt))));
+      short = lit≤ tt;
+      light = lit≤ tt;
+      few = omega (arith, field-lt s 58 4);
+      third = omega (arith, field-lt s 56 2);
+    })
     (λ k none. subst (Small s) (sym none) (record { places = lit≤ tt; narrow = tt; short = lit≤ tt; light = lit≤ tt; few = lit≤ tt; third = lit< tt }))
 
 -- the row with a table row's fields is that row
@@ -118,6 +128,55 @@ pub frame-padded : (kind : ℕ) (vs : List ℕ) (ps : List Pair) → frameOf kin
 unfolding frameOf
 frame-padded kind vs ps = rw (getD-padded 5 vs 0 (lit< tt), getD-padded 5 vs 1 (lit< tt), getD-padded 5 vs 2 (lit< tt))
 
+-- a place past the values is 0, which is a grade
+zero-known : (x : Field) → gradeKnown x 0 ≡ true
+zero-known (plain of w) = refl
+zero-known (lessOneField of w) = refl
+zero-known (grade of w) = refl
+
+pub grades-padded : (xs : List Field) (n : ℕ) (vs : List ℕ) → length xs ≤ n → gradesKnown xs (padded n vs) ≡ gradesKnown xs vs
+unfolding gradesKnown
+grades-padded [] n vs h = refl
+grades-padded (x ∷ xs) zero vs h = absurd (not-suc-le-zero h)
+grades-padded (x ∷ xs) (suc n) [] h = rw (zero-known x, grades-padded xs n [] (le-of-suc-le-suc h)) (none xs)
+  where
+    none : (ys : List Field) → gradesKnown ys [] ≡ true
+    none [] = refl
+    none (y ∷ ys) = refl
+grades-padded (x ∷ xs) (suc n) (v ∷ vs) h = ap (λ (t : Bool). gradeKnown x v && t) (grades-padded xs n vs (le-of-suc-le-suc h))
+
+-- fields of which none is a grade
+abbrev Gradeless : List Field → Type 0
+Gradeless [] = Unit {0}
+Gradeless (x ∷ xs) = ((v : ℕ) → gradeKnown x v ≡ true) × Gradeless xs
+
+none-graded : (xs : List Field) (vs : List ℕ) → Gradeless xs → gradesKnown xs vs ≡ true
+unfolding gradesKnown
+none-graded [] vs h = refl
+none-graded (x ∷ xs) [] h = refl
+none-graded (x ∷ xs) (v ∷ vs) h = rw (h .0 v, none-graded xs vs (h .1))
+
+-- only kind 6 has a grade, at the third place
+pub grade-none : (vs : List ℕ) (k : ℕ) → (k ≡ 6 → ⊥) → gradesKnown (rowOf k .head) vs ≡ true
+unfolding rowOf gradesKnown
+grade-none vs =
+    by-kind (λ k. (k ≡ 6 → ⊥) → gradesKnown (rowOf k .head) vs ≡ true)
+    (λ _. none-graded (messageRow .head) vs ((λ v. refl), ((λ v. refl), ((λ v. refl), tt))))
+    (λ _. none-graded (tickRow .head) vs ((λ v. refl), tt))
+    (λ _. none-graded (registerRow .head) vs ((λ v. refl), ((λ v. refl), ((λ v. refl), ((λ v. refl), tt)))))
+    (λ _. none-graded (unregisterRow .head) vs ((λ v. refl), ((λ v. refl), tt)))
+    (λ _. none-graded (cancelRow .head) vs ((λ v. refl), ((λ v. refl), tt)))
+    (λ h. absurd (h refl))
+    (λ k none _. rw none)
+
+pub grade-third : (vs : List ℕ) → gradesKnown (gradedRow .head) vs ≡ leb (getD vs 2 0) 2
+unfolding gradesKnown
+grade-third [] = refl
+grade-third (a ∷ []) = refl
+grade-third (a ∷ b ∷ []) = refl
+grade-third (a ∷ b ∷ c ∷ []) = and-true (leb c 2)
+grade-third (a ∷ b ∷ c ∷ d ∷ vs) = and-true (leb c 2)
+
 -- the number of pairs by the array
 pub pairs-read : (s : List ℕ) (k fields amount m : ℕ) (values : List ℕ) → fields ≡ length (rowOf k .head) → 0 < fields → amount ≡ rowOf k .amount
     → values ≡ padded 5 (valuesAt s (rowOf k)) → m ≡ cond (eqb amount 0) 0 (getD values (fields - 1) 0 + 1) → m ≡ pairsBy (rowOf k) (valuesAt s (rowOf k))
@@ -157,6 +216,13 @@ less-fits n w h = go (ltb 0 n) refl (leb n 256) refl
 
 pub less-is : (n : ℕ) → 0 < n → n ≤ 256 → lessOne n ≡ n - 1
 less-is n h k = rw (lt-ltb 0 n h, le-leb n 256 k)
+
+pub less-within : (n w : ℕ) → w ≤ 8 → within (2 ^ w) n ≡ true → lessOne n ≡ n - 1
+less-within n w h e =
+    let p : 2 ^ w ≤ 2 ^ 8 = pow-mono h in
+    let l : 0 < n = ltb-true 0 n (and-left (ltb 0 n) (leb n (2 ^ w)) e) in
+    let m : n ≤ 2 ^ w = leb-true n (2 ^ w) (and-right (ltb 0 n) (leb n (2 ^ w)) e) in
+    less-is n l (omega arith)
 
 pub less-none : (n : ℕ) → n ≡ 0 → lessOne n ≡ 2 ^ 32 - 1
 less-none n h = rw h

@@ -4,19 +4,21 @@ use Prim.Native.Nat.{ℕ, zero, suc, _≤_}
 use native.Mathlib.Nat.{not-suc-le-zero, le-of-suc-le-suc}
 use native.Mathlib.Omega.{arith}
 use mathlib.Core.Path.{_≡_, refl, sym, ap, _∙_}
+use mathlib.Core.Logic.{_⊎_, inl, inr}
 use mathlib.Core.List.{List, [], _∷_, _++_, map}
 use lib.ListN.{length, take, drop}
 use lib.Seq.{take-at}
 use borrow.Author.Tests.{le-leb}
 use Rattle.wire.specs.Bits.{Bytes}
-use Rattle.paper.specs.Frame.{Pair, Frame, Fields, Shape, Valid, shape, encode, mostPairs}
+use Rattle.paper.specs.Frame.{Pair, Frame, Fields, Shape, Valid, urgencyOf, shape, encode, mostPairs}
 use Rattle.paper.specs.Frame.Frame.{message, tick, register, unregister, cancel}
+use Rattle.paper.specs.Frame.Form.{ungraded, graded}
 use Rattle.paper.specs.Frame.Shape.{refused, accepted}
 use Rattle.paper.specs.Write.{side-by-side, fromFields, fieldsWith, pairsIn, writeNumber, bytesOf}
-use Rattle.paper.proofs.FrameLaws.{shape-valid, encode-shape}
+use Rattle.paper.proofs.FrameLaws.{of-level, shape-valid, encode-shape}
 use Rattle.paper.proofs.WriteLaws.{Beside, fields-number, fields-read, fields-with}
 use Rattle.frame.specs.declared.Kind.{Kind}
-use Rattle.frame.specs.declared.Kind.the-variants.{Message, Tick, Register, Unregister, Cancel, Refused}
+use Rattle.frame.specs.declared.Kind.the-variants.{Message, Tick, Register, Unregister, Cancel, Urgent, Refused}
 use Rattle.frame.specs.declared.Parsed.{Parsed}
 use Rattle.frame.specs.declared.Written.{Written}
 use Rattle.frame.specs.Read.{ReadPost, answerOf, pairsRead, padded, termArray, amountArray}
@@ -31,7 +33,11 @@ read-written x s t w r post z got = go (fromFields x) refl (sym (post .number) �
   where
     go : (sh : Shape) → fromFields x ≡ sh → writeNumber (length s) sh ≡ 0 → w .length ≡ length (bytesOf sh) → t ≡ bytesOf sh ++ drop (length (bytesOf sh)) s
         → ReadPost sh r
-    go (refused n) e h l b = let k = fields-number x n e in absurd (omega arith)
+    go (refused n) e h l b = absurd (none (fields-number x n e))
+      where
+        none : (((2 ≤ n) × (n ≤ 6)) ⊎ (n ≡ 14)) → ⊥
+        none (inl k) = omega arith
+        none (inr k) = omega arith
     go (accepted f) e h l b =
         let is : take (w .length) t ≡ encode f = rw b (take-at (encode f) (drop (length (encode f)) s) (w .length) (sym l)) in
         rw (is, fields-read x f e) at got
@@ -62,23 +68,25 @@ in-arrays ps h = record {
 
 -- what an answer and its arrays say
 abbrev pub told : Kind → List ℕ → List ℕ → Shape
-told (Message t s m) ts us = accepted (message t s (side-by-side m ts us))
+told (Message t s m) ts us = accepted (message t s ungraded (side-by-side m ts us))
 told (Tick t) ts us = accepted (tick t)
 told (Register t n k m) ts us = accepted (register t n k (side-by-side m ts us))
 told (Unregister t n) ts us = accepted (unregister t n)
 told (Cancel t s) ts us = accepted (cancel t s)
+told (Urgent t s u m) ts us = accepted (message t s (graded (urgencyOf u)) (side-by-side m ts us))
 told (Refused r) ts us = refused r
 
 -- no frame has more pairs than the arrays have places
 pub pairs-most : (f : Frame) → Valid f → length (pairsIn f) ≤ mostPairs
-pairs-most (message t s ps) v = v .pairs .at-most
+pairs-most (message t s g ps) v = v .pairs .at-most
 pairs-most (tick t) v = omega arith
 pairs-most (register t n k ps) v = let h = v .terms .at-most in omega arith
 pairs-most (unregister t n) v = omega arith
 pairs-most (cancel t s) v = omega arith
 
 told-frame : (f : Frame) → length (pairsIn f) ≤ mostPairs → told (answerOf (accepted f)) (termArray (pairsIn f)) (amountArray (pairsIn f)) ≡ accepted f
-told-frame (message t s ps) h = ap (λ (l : List Pair). accepted (message t s l)) (beside-padded mostPairs ps h)
+told-frame (message t s ungraded ps) h = ap (λ (l : List Pair). accepted (message t s ungraded l)) (beside-padded mostPairs ps h)
+told-frame (message t s (graded u) ps) h = rw (of-level u, beside-padded mostPairs ps h)
 told-frame (tick t) h = refl
 told-frame (register t n k ps) h = ap (λ (l : List Pair). accepted (register t n k l)) (beside-padded mostPairs ps h)
 told-frame (unregister t n) h = refl
@@ -99,10 +107,12 @@ countIn (Tick t) = 0
 countIn (Register t n k m) = m
 countIn (Unregister t n) = 0
 countIn (Cancel t s) = 0
+countIn (Urgent t s u m) = m
 countIn (Refused r) = 0
 
 pub count-answer : (x : Shape) → countIn (answerOf x) ≡ length (pairsRead x)
-count-answer (accepted (message t s ps)) = refl
+count-answer (accepted (message t s ungraded ps)) = refl
+count-answer (accepted (message t s (graded u) ps)) = refl
 count-answer (accepted (tick t)) = refl
 count-answer (accepted (register t n k ps)) = refl
 count-answer (accepted (unregister t n)) = refl
@@ -117,7 +127,8 @@ fields-in f r v got =
     (ap fromFields (same f (termArray (pairsIn f)) (amountArray (pairsIn f))) ∙ fields-with f _ _ v (in-arrays (pairsIn f) (pairs-most f v)))
   where
     same : (g : Frame) (ts us : List ℕ) → fieldsBy (answerOf (accepted g)) ts us ≡ fieldsWith g ts us
-    same (message t s ps) ts us = refl
+    same (message t s ungraded ps) ts us = refl
+    same (message t s (graded u) ps) ts us = refl
     same (tick t) ts us = refl
     same (register t n k ps) ts us = refl
     same (unregister t n) ts us = refl

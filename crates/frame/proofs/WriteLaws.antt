@@ -13,7 +13,7 @@ use Rattle.wire.specs.Bits.{bits, unpack, pack, Bytes}
 use Rattle.wire.specs.Field.{placed, spell, total}
 use Rattle.wire.proofs.BitLaws.{length-bits}
 use Rattle.wire.proofs.LayoutLaws.{spell-append}
-use Rattle.paper.specs.Frame.{Pair, Frame, Fields, Shape, kindWidth, rowOf, widths, frameOf, judged, writtenBy, pairWidths, pairValues, termWidth, bitsOf, bytesFor, fillAfter, written, encode, rising}
+use Rattle.paper.specs.Frame.{Pair, Frame, Fields, Shape, kindWidth, rowOf, widths, gradesKnown, frameOf, judged, writtenBy, pairWidths, pairValues, termWidth, bitsOf, bytesFor, fillAfter, written, encode, rising}
 use Rattle.paper.specs.Frame.Shape.{refused, accepted}
 use Rattle.paper.specs.Write.{side-by-side, allWithin, headWithin, valueOf, pairsTaken, pairsWithin, pairsOf, fromKind, fromFields}
 use Rattle.paper.proofs.Tests.{and-true}
@@ -167,53 +167,65 @@ done-post f s t r h n p = record {
 
 -- by the row of the fields' kind
 module _ (x : Fields) (known : 0 < length (rowOf (x .kind) .head)) where
+  abbrev values : List ℕ
+  values = map (valueOf x) (rowOf (x .kind) .head)
+
   by-row : fromFields x
-      ≡ judged (headWithin (rowOf (x .kind) .head) x && pairsWithin (rowOf (x .kind)) x) (pairsOf (rowOf (x .kind)) x)
-      (frameOf (x .kind) (map (valueOf x) (rowOf (x .kind) .head)) (pairsOf (rowOf (x .kind)) x))
+      ≡ judged (gradesKnown (rowOf (x .kind) .head) values) (headWithin (rowOf (x .kind) .head) x && pairsWithin (rowOf (x .kind)) x)
+      (pairsOf (rowOf (x .kind)) x) (frameOf (x .kind) values (pairsOf (rowOf (x .kind)) x))
   unfolding fromKind
   by-row = rw (lt-ltb 0 (length (rowOf (x .kind) .head)) known)
 
-  pub head-refused : headWithin (rowOf (x .kind) .head) x ≡ false → fromFields x ≡ refused 5
-  head-refused h = by-row ∙ rw h
+  pub grade-refused : gradesKnown (rowOf (x .kind) .head) values ≡ false → fromFields x ≡ refused 14
+  grade-refused g = by-row ∙ rw g
 
-  module _ (h : headWithin (rowOf (x .kind) .head) x ≡ true) where
-    -- 5 or 6, or 0, of the pairs
-    abbrev pub verdict : ℕ
-    verdict = pairsVerdict (rowOf (x .kind) .amount) (pairsTaken (rowOf (x .kind)) x) (x .terms) (x .amounts)
+  module _ (g : gradesKnown (rowOf (x .kind) .head) values ≡ true) where
+    pub head-refused : headWithin (rowOf (x .kind) .head) x ≡ false → fromFields x ≡ refused 5
+    head-refused h = by-row ∙ rw (g, h)
 
-    pub pairs-refused : (verdict ≡ 0 → ⊥) → fromFields x ≡ refused verdict
-    unfolding pairsVerdict pairsNumber
-    pairs-refused z = by-row ∙ rw h (go (pairsWithin (rowOf (x .kind)) x) (rising (pairsOf (rowOf (x .kind)) x)) _ z)
-      where
-        go : (a b : Bool) (made : Shape) → (_≡_ {A = ℕ} (cond a (cond b 0 6) 5) 0 → ⊥)
-            → cond a (cond b made (refused 6)) (refused 5) ≡ refused (cond a (cond b 0 6) 5)
-        go true true made z = absurd (z refl)
-        go true false made z = refl
-        go false b made z = refl
+    module _ (h : headWithin (rowOf (x .kind) .head) x ≡ true) where
+      -- 5 or 6, or 0, of the pairs
+      abbrev pub verdict : ℕ
+      verdict = pairsVerdict (rowOf (x .kind) .amount) (pairsTaken (rowOf (x .kind)) x) (x .terms) (x .amounts)
 
-    -- the frame that is written
-    pub frame-made : verdict ≡ 0 → Made x (x .kind)
-    frame-made z =
-        let l = verdict-within (rowOf (x .kind) .amount) (pairsTaken (rowOf (x .kind)) x) (x .terms) (x .amounts) z in
-        made x (x .kind) known (length-side (pairsTaken (rowOf (x .kind)) x) (x .terms) (x .amounts) (l .0) (l .1))
+      pub pairs-refused : (verdict ≡ 0 → ⊥) → fromFields x ≡ refused verdict
+      unfolding pairsVerdict pairsNumber
+      pairs-refused z = by-row ∙ rw (g, h) (go (pairsWithin (rowOf (x .kind)) x) (rising (pairsOf (rowOf (x .kind)) x)) _ z)
+        where
+          go : (a b : Bool) (made : Shape) → (_≡_ {A = ℕ} (cond a (cond b 0 6) 5) 0 → ⊥)
+              → cond a (cond b made (refused 6)) (refused 5) ≡ refused (cond a (cond b 0 6) 5)
+          go true true made z = absurd (z refl)
+          go true false made z = refl
+          go false b made z = refl
 
-    pub frame-accepted : (z : verdict ≡ 0) → fromFields x ≡ accepted (frame-made z .frame)
-    unfolding pairsVerdict
-    frame-accepted z =
-        let p = none-refused (pairsWithin (rowOf (x .kind)) x) (pairsOf (rowOf (x .kind)) x) z in
-        by-row ∙ rw (h, p .0, p .1) (frame-made z .is)
+      -- the frame that is written
+      pub frame-made : verdict ≡ 0 → Made x (x .kind)
+      frame-made z =
+          let l = verdict-within (rowOf (x .kind) .amount) (pairsTaken (rowOf (x .kind)) x) (x .terms) (x .amounts) z in
+          made x (x .kind) known g (length-side (pairsTaken (rowOf (x .kind)) x) (x .terms) (x .amounts) (l .0) (l .1))
 
-    pub frame-size : (z : verdict ≡ 0)
-        → length (encode (frame-made z .frame)) ≡ bytesFor (bitsOf (widths (rowOf (x .kind))) (rowOf (x .kind) .amount) (pairsTaken (rowOf (x .kind)) x))
-    frame-size z =
-        let row = rowOf (x .kind) in
-        let l = verdict-within (row .amount) (pairsTaken row x) (x .terms) (x .amounts) z in
-        ap length (frame-made z .spelled) ∙ encode-length (widths row) (row .amount) _ (pairsOf row x)
-        ∙ rw (length-side (pairsTaken row x) (x .terms) (x .amounts) (l .0) (l .1))
+      pub frame-accepted : (z : verdict ≡ 0) → fromFields x ≡ accepted (frame-made z .frame)
+      unfolding pairsVerdict
+      frame-accepted z =
+          let p = none-refused (pairsWithin (rowOf (x .kind)) x) (pairsOf (rowOf (x .kind)) x) z in
+          by-row ∙ rw (g, h, p .0, p .1) (frame-made z .is)
+
+      pub frame-size : (z : verdict ≡ 0)
+          → length (encode (frame-made z .frame)) ≡ bytesFor (bitsOf (widths (rowOf (x .kind))) (rowOf (x .kind) .amount) (pairsTaken (rowOf (x .kind)) x))
+      frame-size z =
+          let row = rowOf (x .kind) in
+          let l = verdict-within (row .amount) (pairsTaken row x) (x .terms) (x .amounts) z in
+          ap length (frame-made z .spelled) ∙ encode-length (widths row) (row .amount) _ (pairsOf row x)
+          ∙ rw (length-side (pairsTaken row x) (x .terms) (x .amounts) (l .0) (l .1))
 
 -- ---- by the code's row
 
 module _ (x : Fields) (r : Row) (row : RowPost (rowOf (x .kind)) r) where
+  -- the grade among the values is the fields'
+  pub grade-as : (values : List ℕ) (b : Bool) → ValuesPost x values → b ≡ gradesKnown (rowOf (x .kind) .head) values
+      → b ≡ gradesKnown (rowOf (x .kind) .head) (map (valueOf x) (rowOf (x .kind) .head))
+  grade-as values b post e = e ∙ post .grades
+
   -- the values fit exactly if the fields are in range
   pub fit-as : (values : List ℕ) (b : Bool) → ValuesPost x values → b ≡ fitting (take (r .fields) (r .widths)) (take (r .fields) values)
       → b ≡ headWithin (rowOf (x .kind) .head) x

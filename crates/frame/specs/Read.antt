@@ -1,25 +1,27 @@
 -- What the reader answers: for each case of a frame the answer's case and values, and the pairs in two arrays.
--- Document 01, "The frame" and "Replies". Assumes nothing.
+-- Document 01, "The frame" and "Replies", and document 02, T-02 and T-04. Assumes nothing.
 use Prim.Native.Nat.{ℕ, zero, suc, _+_, _*_, _≤_}
 use mathlib.Core.Path.{_≡_}
-use mathlib.Core.Bool.{Bool, cond}
+use mathlib.Core.Bool.{Bool, true, cond}
 use mathlib.Core.List.{List, [], _∷_, map}
 use lib.ListN.{length, take, getD}
 use lib.Dec.{eqb, leb}
 use Rattle.wire.specs.Field.{field, total}
-use Rattle.paper.specs.Frame.{Pair, Row as TableRow, Shape, kindWidth, width, widths, frameOf, positive, rising, pairsAt, bytesFor, fillAfter, termWidth, mostPairs}
+use Rattle.paper.specs.Frame.{Pair, Row as TableRow, Shape, kindWidth, width, widths, rowOf, level, gradesKnown, frameOf, positive, rising, pairsAt, bytesFor, fillAfter, termWidth, mostPairs}
 use Rattle.paper.specs.Frame.Frame.{message, tick, register, unregister, cancel}
+use Rattle.paper.specs.Frame.Form.{ungraded, graded}
 use Rattle.paper.specs.Frame.Shape.{refused, accepted}
 use Rattle.paper.specs.Write.{pairsIn}
 use Rattle.frame.specs.declared.Kind.{Kind}
-use Rattle.frame.specs.declared.Kind.the-variants.{Message, Tick, Register, Unregister, Cancel, Refused}
+use Rattle.frame.specs.declared.Kind.the-variants.{Message, Tick, Register, Unregister, Cancel, Urgent, Refused}
 use Rattle.frame.specs.declared.Parsed.{Parsed}
 use Rattle.frame.specs.declared.PairList.{PairList}
 use Rattle.frame.specs.declared.Row.{Row}
 
 -- the answer's case and values, for each case of a frame, and the number of a refusal
 abbrev pub answerOf : Shape → Kind
-answerOf (accepted (message t s ps)) = Message t s (length ps)
+answerOf (accepted (message t s ungraded ps)) = Message t s (length ps)
+answerOf (accepted (message t s (graded u) ps)) = Urgent t s (level u) (length ps)
 answerOf (accepted (tick t)) = Tick t
 answerOf (accepted (register t n k ps)) = Register t n k (length ps)
 answerOf (accepted (unregister t n)) = Unregister t n
@@ -70,10 +72,10 @@ abbrev pub Narrow : List ℕ → Type 0
 Narrow [] = Unit {0}
 Narrow (w ∷ ws) = (w ≤ 32) × Narrow ws
 
--- the answer for a kind with these values, whose m pairs stand in the two arrays
-abbrev pub FramedPost : (kind : ℕ) (values : List ℕ) (m : ℕ) (terms amounts : List ℕ) → Parsed → Type 0
-FramedPost kind values m terms amounts r =
-    (ps : List Pair) → m ≡ length ps → terms ≡ termArray ps → amounts ≡ amountArray ps → ReadPost (frameOf kind values ps) r
+-- the answer for a kind with these values, a grade among them one of the three, and m pairs
+abbrev pub FramedPost : (kind : ℕ) (values : List ℕ) (m : ℕ) → Kind → Type 0
+FramedPost kind values m r =
+    (ps : List Pair) → gradesKnown (rowOf kind .head) values ≡ true → m ≡ length ps → r ≡ answerOf (frameOf kind values ps)
 
 -- 5 or 6, or 0, of pairs
 unfoldable pub pairsNumber : Bool → List Pair → ℕ
@@ -87,11 +89,11 @@ judgeNext number sound least term = cond sound (cond (eqb number 0) (cond (leb l
 unfoldable pub fitNumber : List ℕ → ℕ → ℕ
 fitNumber s bits = cond (eqb (length s) (bytesFor bits)) (cond (eqb (field s bits (fillAfter bits)) 0) 0 4) 3
 
--- 3 to 6, or 0, of m pairs after a head of h bits
-unfoldable pub checkNumber : List ℕ → ℕ → ℕ → ℕ → ℕ
-checkNumber s h w m =
+-- 3, 4, 14, 5 or 6, or 0, of m pairs after a head of h bits, whose grade is known or not
+unfoldable pub checkNumber : List ℕ → ℕ → ℕ → ℕ → Bool → ℕ
+checkNumber s h w m known =
     cond (eqb (fitNumber s (h + m * (termWidth + w))) 0)
-    (pairsNumber (positive (pairsAt s h w m)) (pairsAt s h w m))
+    (cond known (pairsNumber (positive (pairsAt s h w m)) (pairsAt s h w m)) 14)
     (fitNumber s (h + m * (termWidth + w)))
 
 -- pairs as they are read, judged by 5 and 6
@@ -101,8 +103,8 @@ pub record PairsPost (s : List ℕ) (at w m : ℕ) (r : PairList) : Type 0 where
   pub amounts : r .amounts ≡ amountArray (pairsAt s at w m)
 
 -- where they are accepted, the length is what they need
-pub record CheckedPost (s : List ℕ) (h w m : ℕ) (r : PairList) : Type 0 where
-  pub number : r .number ≡ checkNumber s h w m
+pub record CheckedPost (s : List ℕ) (h w m : ℕ) (known : Bool) (r : PairList) : Type 0 where
+  pub number : r .number ≡ checkNumber s h w m known
   pub size : r .number ≡ 0 → length s ≡ bytesFor (h + m * (termWidth + w))
   pub terms : r .number ≡ 0 → r .terms ≡ termArray (pairsAt s h w m)
   pub amounts : r .number ≡ 0 → r .amounts ≡ amountArray (pairsAt s h w m)

@@ -1,4 +1,4 @@
--- What the writer answers and leaves in the output. Document 01, "The frame" and "Replies". Assumes nothing.
+-- What the writer answers and leaves in the output. Document 01, "The frame" and "Replies", and document 02, T-02 and T-04. Assumes nothing.
 use Prim.Native.Nat.{ℕ, _+_, _-_, _^_}
 use mathlib.Core.Path.{_≡_}
 use mathlib.Core.Bool.{Bool, true, cond, _&&_}
@@ -6,17 +6,17 @@ use mathlib.Core.List.{List, [], _∷_, _++_, map}
 use lib.ListN.{length, take, drop}
 use lib.Dec.{eqb, leb, ltb}
 use Rattle.wire.specs.Bits.{unpack}
-use Rattle.paper.specs.Frame.{Fields, Shape, width, rowOf, termWidth, pairWidths, pairValues}
+use Rattle.paper.specs.Frame.{Fields, Shape, width, rowOf, gradesKnown, termWidth, pairWidths, pairValues}
 use Rattle.paper.specs.Write.{side-by-side, within, allWithin, headWithin, valueOf, fieldsFor, writeNumber, bytesOf}
 use Rattle.wire.specs.Field.{spell}
 use Rattle.frame.specs.declared.Kind.{Kind}
-use Rattle.frame.specs.declared.Kind.the-variants.{Message, Tick, Register, Unregister, Cancel, Refused}
+use Rattle.frame.specs.declared.Kind.the-variants.{Message, Tick, Register, Unregister, Cancel, Urgent, Refused}
 use Rattle.frame.specs.declared.Parsed.{Parsed}
 use Rattle.frame.specs.declared.Written.{Written}
 use Rattle.frame.specs.Read.{pairsNumber}
 
 -- the fields that are handed over
-abbrev pub fields : (kind time serial number k pairs : ℕ) (terms amounts : List ℕ) → Fields
+abbrev pub fields : (kind time serial urgency number k pairs : ℕ) (terms amounts : List ℕ) → Fields
 fields = fieldsFor
 
 -- the promise of `write`, for what its fields are, with output s at entry and t at exit: the frame's bytes and what stood past them where the
@@ -28,12 +28,13 @@ pub record WritePost (sh : Shape) (s t : List ℕ) (r : Written) : Type 0 where
 
 -- the fields that an answer of the reader lists, for the writer; none of a kind for a refusal
 abbrev pub fieldsBy : Kind → List ℕ → List ℕ → Fields
-fieldsBy (Message t s n) terms amounts = fields 1 t s 0 0 n terms amounts
-fieldsBy (Tick t) terms amounts = fields 2 t 0 0 0 0 terms amounts
-fieldsBy (Register t n k m) terms amounts = fields 3 t 0 n k m terms amounts
-fieldsBy (Unregister t n) terms amounts = fields 4 t 0 n 0 0 terms amounts
-fieldsBy (Cancel t s) terms amounts = fields 5 t s 0 0 0 terms amounts
-fieldsBy (Refused r) terms amounts = fields 0 0 0 0 0 0 terms amounts
+fieldsBy (Message t s n) terms amounts = fields 1 t s 0 0 0 n terms amounts
+fieldsBy (Tick t) terms amounts = fields 2 t 0 0 0 0 0 terms amounts
+fieldsBy (Register t n k m) terms amounts = fields 3 t 0 0 n k m terms amounts
+fieldsBy (Unregister t n) terms amounts = fields 4 t 0 0 n 0 0 terms amounts
+fieldsBy (Cancel t s) terms amounts = fields 5 t s 0 0 0 0 terms amounts
+fieldsBy (Urgent t s u n) terms amounts = fields 6 t s u 0 0 n terms amounts
+fieldsBy (Refused r) terms amounts = fields 0 0 0 0 0 0 0 terms amounts
 
 abbrev pub fieldsIn : Parsed → Fields
 fieldsIn r = fieldsBy (r .what) (r .terms) (r .amounts)
@@ -54,8 +55,10 @@ fitting [] vs = true
 fitting (w ∷ ws) [] = true
 fitting (w ∷ ws) (v ∷ vs) = ltb v (2 ^ w) && fitting ws vs
 
--- the values of a kind's fields, in the first places: they fit exactly if the fields are in range, and are then what is written
+-- the values of a kind's fields, in the first places: their grades are the fields', they fit exactly if the fields are in range, and are then what
+-- is written
 pub record ValuesPost (x : Fields) (values : List ℕ) : Type 0 where
+  pub grades : gradesKnown (rowOf (x .kind) .head) values ≡ gradesKnown (rowOf (x .kind) .head) (map (valueOf x) (rowOf (x .kind) .head))
   pub fit : fitting (map width (rowOf (x .kind) .head)) (take (length (rowOf (x .kind) .head)) values) ≡ headWithin (rowOf (x .kind) .head) x
   pub are : headWithin (rowOf (x .kind) .head) x ≡ true → take (length (rowOf (x .kind) .head)) values ≡ map (valueOf x) (rowOf (x .kind) .head)
 

@@ -4,10 +4,10 @@ ghost use Prim.Native.Nat.{ℕ, _+_, _-_, _*_, _/_, _%_, _≤_, _<_, _^_};
 ghost use lib.ListN.{length, take, getD};
 ghost use lib.Dec.{eqb};
 ghost use mathlib.Core.Bool.{cond};
-ghost use mathlib.Core.List.{List, [], _∷_};
+ghost use mathlib.Core.List.{List, _∷_};
 ghost use Rattle.wire.specs.Bits.{unpack};
 ghost use Rattle.wire.specs.Field.{field, placed, total, spell, scan};
-ghost use Rattle.paper.specs.Frame.{shape, shapeOfKind, rowOf, kindWidth, written, bytesFor, fillAfter};
+ghost use Rattle.paper.specs.Frame.{shape, shapeOfKind, rowOf, gradesKnown, kindWidth, written, bytesFor, fillAfter};
 ghost use Rattle.paper.specs.Frame.Shape.{refused};
 ghost use Rattle.paper.specs.Write.{fromFields, side-by-side};
 ghost use Rattle.frame.specs.Read.{ReadPost, PairsPost, CheckedPost, RowWith, RowPost, FramedPost, Narrow, padded, judgeNext, fitNumber};
@@ -36,6 +36,12 @@ pub enum Kind {
     Cancel {
         time: u32,
         serial: u32,
+    },
+    Urgent {
+        time: u32,
+        serial: u32,
+        urgency: u32,
+        pairs: usize,
     },
     Refused(u32),
 }
@@ -75,7 +81,7 @@ fn row_with(fields: usize, widths: [usize; 5], amount: usize) -> Row
     }
 }
 
-// A new kind is one more row here, and one more case of framed and of values_of.
+// A new kind is one more row here, and one more case of framed and of values_of, and of graded where it has a grade.
 fn row_of(kind: u32) -> Row
     ensures { λ r. ⌜ RowPost (rowOf kind) r ⌝ }
 {
@@ -85,7 +91,18 @@ fn row_of(kind: u32) -> Row
         3 => row_with(4, [32, 5, 4, 3, 0], 4),
         4 => row_with(2, [32, 5, 0, 0, 0], 0),
         5 => row_with(2, [32, 20, 0, 0, 0], 0),
+        6 => row_with(4, [32, 20, 2, 4, 0], 8),
         _ => row_with(0, [0, 0, 0, 0, 0], 0),
+    }
+}
+
+// Whether a grade among the values of a kind's fields is one of the three.
+fn graded(kind: u32, values: [u32; 5]) -> bool
+    ensures { λ r. ⌜ r ≡ gradesKnown (rowOf kind .head) values ⌝ }
+{
+    match kind {
+        6 => values[2] < 3,
+        _ => true,
     }
 }
 
@@ -166,10 +183,20 @@ fn take_pairs(bytes: &[u8], at: usize, width: usize, m: usize) -> PairList
     }
 }
 
-// The m pairs after a head of so many bits, where nothing of 3 to 6 refuses them.
-fn checked_pairs(bytes: &[u8], head: usize, width: usize, m: usize) -> PairList
+// 14 comes before the number of the pairs.
+fn grade_first(known: bool, number: u32) -> u32
+    ensures { λ r. ⌜ r ≡ cond known number 14 ⌝ }
+{
+    if !known {
+        return 14;
+    }
+    number
+}
+
+// The m pairs after a head of so many bits, whose grade is known or not, where nothing of 3, 4, 14, 5 and 6 refuses them.
+fn checked_pairs(bytes: &[u8], head: usize, width: usize, m: usize, known: bool) -> PairList
     requires { ⌜ (head + m * (10 + width) ≤ 1024) × (m ≤ 16) × (width ≤ 22) ⌝ }
-    ensures { λ r. ⌜ CheckedPost (now (bytes .entry)) head width m r ⌝ }
+    ensures { λ r. ⌜ CheckedPost (now (bytes .entry)) head width m known r ⌝ }
 {
     let number = misfit(bytes, head + m * (10 + width));
     if number != 0 {
@@ -179,24 +206,25 @@ fn checked_pairs(bytes: &[u8], head: usize, width: usize, m: usize) -> PairList
             amounts: [0u32; 16],
         };
     }
-    take_pairs(bytes, head, width, m)
-}
-
-// An answer without pairs.
-fn pairless(what: Kind) -> Parsed
-    ensures { λ r. ⌜ (r .what ≡ what) × (r .terms ≡ padded 16 []) × (r .amounts ≡ padded 16 []) ⌝ }
-{
-    Parsed {
-        what,
-        terms: [0u32; 16],
-        amounts: [0u32; 16],
+    let p = take_pairs(bytes, head, width, m);
+    let number = grade_first(known, p.number);
+    let terms = p.terms;
+    let amounts = p.amounts;
+    PairList {
+        number,
+        terms,
+        amounts,
     }
 }
 
 fn refusal(number: u32) -> Parsed
     ensures { λ r. ⌜ ReadPost (refused number) r ⌝ }
 {
-    pairless(Kind::Refused(number))
+    Parsed {
+        what: Kind::Refused(number),
+        terms: [0u32; 16],
+        amounts: [0u32; 16],
+    }
 }
 
 // The values of fields of these widths, one after the other from bit `at`.
@@ -229,42 +257,40 @@ fn pairs_by(amount: usize, fields: usize, values: [u32; 5]) -> usize
     values[fields - 1] as usize + 1
 }
 
-// The frame of a kind with these values and pairs.
-fn framed(kind: u32, values: [u32; 5], m: usize, terms: [u32; 16], amounts: [u32; 16]) -> Parsed
+// The frame of a kind with these values and m pairs.
+fn framed(kind: u32, values: [u32; 5], m: usize) -> Kind
     requires { ⌜ getD values 2 0 < 16 ⌝ }
-    ensures { λ r. ⌜ FramedPost kind values m terms amounts r ⌝ }
+    ensures { λ r. ⌜ FramedPost kind values m r ⌝ }
 {
     let time = values[0];
     match kind {
-        1 => Parsed {
-            what: Kind::Message {
-                time,
-                serial: values[1],
-                pairs: m,
-            },
-            terms,
-            amounts,
-        },
-        2 => pairless(Kind::Tick { time }),
-        3 => Parsed {
-            what: Kind::Register {
-                time,
-                number: values[1],
-                k: values[2] + 1,
-                terms: m,
-            },
-            terms,
-            amounts,
-        },
-        4 => pairless(Kind::Unregister {
-            time,
-            number: values[1],
-        }),
-        5 => pairless(Kind::Cancel {
+        1 => Kind::Message {
             time,
             serial: values[1],
-        }),
-        _ => refusal(2),
+            pairs: m,
+        },
+        2 => Kind::Tick { time },
+        3 => Kind::Register {
+            time,
+            number: values[1],
+            k: values[2] + 1,
+            terms: m,
+        },
+        4 => Kind::Unregister {
+            time,
+            number: values[1],
+        },
+        5 => Kind::Cancel {
+            time,
+            serial: values[1],
+        },
+        6 => Kind::Urgent {
+            time,
+            serial: values[1],
+            urgency: values[2],
+            pairs: m,
+        },
+        _ => Kind::Refused(2),
     }
 }
 
@@ -284,13 +310,19 @@ fn read_kind(bytes: &[u8], at: usize, kind: u32) -> Parsed
     let widths = row.widths;
     let values = take_fields(bytes, at, widths, row.fields);
     let m = pairs_by(row.amount, row.fields, values);
-    let p = checked_pairs(bytes, row.bits, row.amount, m);
+    let known = graded(kind, values);
+    let p = checked_pairs(bytes, row.bits, row.amount, m, known);
     if p.number != 0 {
         return refusal(p.number);
     }
+    let what = framed(kind, values, m);
     let terms = p.terms;
     let amounts = p.amounts;
-    framed(kind, values, m, terms, amounts)
+    Parsed {
+        what,
+        terms,
+        amounts,
+    }
 }
 
 // The fields in order from one reader: the kind, and then those of its row from the bit where the reader stands.
@@ -304,7 +336,7 @@ fn read_fields(bytes: &[u8]) -> Parsed
     read_kind(r.frame, r.at, kind)
 }
 
-// What the bytes are: a frame, or the first of the refusals 1 to 6 that applies.
+// What the bytes are: a frame, or the first of the refusals 1 to 4, 14, 5 and 6 that applies.
 pub fn read(bytes: &[u8]) -> Parsed
     ensures { λ r. ⌜ ReadPost (shape (now (bytes .entry))) r ⌝ }
 {
@@ -346,8 +378,16 @@ fn less_one(n: usize) -> u32
 }
 
 // The values of a kind's fields after the kind.
-fn values_of(kind: u32, time: u32, serial: u32, number: u32, k: u32, pairs: usize) -> [u32; 5]
-    ensures { λ r. ⌜ ((ts us : List ℕ) → ValuesPost (fields kind time serial number k pairs ts us) r) ⌝ }
+fn values_of(
+    kind: u32,
+    time: u32,
+    serial: u32,
+    urgency: u32,
+    number: u32,
+    k: u32,
+    pairs: usize,
+) -> [u32; 5]
+    ensures { λ r. ⌜ ((ts us : List ℕ) → ValuesPost (fields kind time serial urgency number k pairs ts us) r) ⌝ }
 {
     match kind {
         1 => [time, serial, less_one(pairs), 0, 0],
@@ -355,6 +395,7 @@ fn values_of(kind: u32, time: u32, serial: u32, number: u32, k: u32, pairs: usiz
         3 => [time, number, less_one(k as usize), less_one(pairs), 0],
         4 => [time, number, 0, 0, 0],
         5 => [time, serial, 0, 0, 0],
+        6 => [time, serial, urgency, less_one(pairs), 0],
         _ => [0, 0, 0, 0, 0],
     }
 }
@@ -482,20 +523,24 @@ pub fn write(
     kind: u32,
     time: u32,
     serial: u32,
+    urgency: u32,
     number: u32,
     k: u32,
     pairs: usize,
     terms: &[u16],
     amounts: &[u8],
 ) -> Written
-    ensures { λ r. ⌜ WritePost (fromFields (fields kind time serial number k pairs (now (terms .entry)) (now (amounts .entry)))) (now (out .entry)) (now (out .exit)) r ⌝ }
+    ensures { λ r. ⌜ WritePost (fromFields (fields kind time serial urgency number k pairs (now (terms .entry)) (now (amounts .entry)))) (now (out .entry)) (now (out .exit)) r ⌝ }
 {
     let row = row_of(kind);
     if row.fields == 0 {
         return unwritten(2);
     }
     let widths = row.widths;
-    let values = values_of(kind, time, serial, number, k, pairs);
+    let values = values_of(kind, time, serial, urgency, number, k, pairs);
+    if !graded(kind, values) {
+        return unwritten(14);
+    }
     if !fit(widths, row.fields, values) {
         return unwritten(5);
     }

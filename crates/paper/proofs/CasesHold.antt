@@ -3,7 +3,7 @@ use mathlib.Core.Path.{_≡_, refl}
 use mathlib.Core.List.{map}
 use Rattle.wire.specs.Bits.{odd, bits, num, unpack, pack}
 use Rattle.wire.specs.Field.{field, total, spell, scan}
-use Rattle.paper.specs.Frame.{rowOf, pairWidths, pairValues, written, encode, frameOf, pairsAt, positive, rises, check, shapeOfKind, shape}
+use Rattle.paper.specs.Frame.{rowOf, pairWidths, pairValues, written, encode, frameOf, pairsAt, positive, rises, gradesKnown, check, shapeOfKind, shape}
 use Rattle.paper.specs.Window.{inForce, noting, departing}
 use Rattle.paper.specs.Impact.{greatest, impact, squares, countOf, impactIn, scoreBy}
 use Rattle.paper.specs.Sort.{select, insert, inserts}
@@ -12,5 +12,6 @@ use Rattle.paper.specs.Log.{hasSerial, judge, accept, after, departs, de
 use Rattle.paper.specs.Cases.{table, computed, expected}
 
 pub cases-hold : map computed table ≡ map expected table
-unfolding table odd bits num unpack pack field total spell scan rowOf pairWidths pairValues written encode frameOf pairsAt positive rises check shapeOfKind shape inForce noting departing greatest impact squares countOf impactIn scoreBy select insert inserts ranking hasSerial judge accept after departs departures judgeList seen listed
+unfolding table odd bits num unpack pack field total spell scan rowOf pairWidths pairValues written encode frameOf pairsAt positive rises gradesKnown check shapeOfKind
+    shape inForce noting departing greatest impact squares countOf impactIn scoreBy select insert inserts ranking hasSerial judge accept after departs departures judgeList seen listed
 cases-hold = refl

@@ -1,24 +1,28 @@
--- The laws of the frame: what is encoded is read back, what is read is the encoding of a valid frame, and a refusal's number is 1 to 6.
+-- The laws of the frame: what is encoded is read back, what is read is the encoding of a valid frame, and a refusal's number is 1 to 6 or 14.
 -- All but the last two sections are for any head, any width of a count or weight, and any number of pairs.
 -- Assumes nothing.
 use mathlib.Core.Path.{_≡_, refl, sym, ap, ap₂, _∙_, subst}
 use Prim.Native.Nat.{ℕ, zero, suc, _+_, _-_, _*_, _≤_, _<_}
 use native.Mathlib.Nat.{zero-add, add-sub-cancel, add-assoc, zero-mul, suc-mul}
 use native.Mathlib.Omega.{arith}
-use mathlib.Core.Bool.{Bool, true, false, cond}
+use mathlib.Core.Bool.{Bool, true, false, cond, _&&_}
+use mathlib.Core.Logic.{_⊎_, inl, inr}
 use mathlib.Core.List.{List, [], _∷_, _++_}
 use lib.ListN.{length, getD}
-use lib.Dec.{eqb, ltb, lit≤, lit<}
+use lib.Dec.{eqb, leb, ltb, lit≤, lit<}
 use lib.Pow.{pow-pos}
-use borrow.Author.Tests.{eqb-true, eq-eqb, ne-eqb, le-ltb}
+use borrow.Author.Tests.{eqb-true, eq-eqb, ne-eqb, leb-true, le-leb, le-ltb}
 use Rattle.wire.specs.Bits.{Bytes, pack}
 use Rattle.wire.specs.Field.{field, total, spell, scan, Fit}
 use Rattle.wire.proofs.BitLaws.{length-pack}
 use Rattle.wire.proofs.FieldLaws.{field-lt}
 use Rattle.wire.proofs.LayoutLaws.{scan-spell, pack-scan, total-append, scan-append, scan-parts, fit-append}
-use Rattle.paper.specs.Frame.{Pair, Frame, Shape, Pairs, AllFit, Valid, messageRow, tickRow, registerRow, unregisterRow, cancelRow, noRow, rowOf, widths, frameOf, termWidth, countWidth}
-use Rattle.paper.specs.Frame.{weightWidth, mostPairs, mostTerms, pairWidths, pairValues, bitsOf, bytesFor, fillAfter, written, encode, pairsAt, positive, rises, rising, check, shapeOfKind, shape}
+use Rattle.paper.specs.Frame.{Pair, Urgency, Frame, Shape, Pairs, AllFit, Valid, level, urgencyOf, messageRow, tickRow, registerRow, unregisterRow, cancelRow, gradedRow, noRow, rowOf, widths, frameOf, termWidth, countWidth}
+use Rattle.paper.specs.Frame.{weightWidth, mostPairs, mostTerms, pairWidths, pairValues, bitsOf, bytesFor, fillAfter, written, encode, pairsAt, positive, rises, rising, gradesKnown, check, shapeOfKind, shape}
+use Rattle.paper.proofs.Tests.{and-true}
 use Rattle.paper.specs.Frame.Frame.{message, tick, register, unregister, cancel}
+use Rattle.paper.specs.Frame.Urgency.{routine, important, vital}
+use Rattle.paper.specs.Frame.Form.{ungraded, graded}
 use Rattle.paper.specs.Frame.Shape.{refused, accepted}
 
 -- ---- pairs
@@ -134,15 +138,15 @@ pub or-refused : (P : Shape → Type 0) (t : Bool) {x y : Shape} → P y → (t 
 or-refused P t k h = by-test P t h (λ _. k)
 
 pub check-reads : (s head : List ℕ) (w : ℕ) (values : List ℕ) (ps : List Pair) (make : List Pair → Frame) → Reads s head w values ps → positive ps ≡ true → rising ps ≡ true
-    → check s head w (length ps) (λ qs. accepted (make qs)) ≡ accepted (make ps)
+    → check s head w (length ps) true (λ qs. accepted (make qs)) ≡ accepted (make ps)
 unfolding check
 check-reads s head w values ps make r p o =
     let b : ℕ = bitsOf head w (length ps) in
     rw (eq-eqb (length s) (bytesFor b) (r .long), eq-eqb (field s b (fillAfter b)) 0 (r .fill), r .pairs, p, o)
 
--- a refusal is one of `least` to 6, and a frame is as claimed
+-- a refusal is one of `least` to 6 or 14, and a frame is as claimed
 abbrev pub Judged : ℕ → (Frame → Type 0) → Shape → Type 0
-Judged least Claim (refused r) = (least ≤ r) × (r ≤ 6)
+Judged least Claim (refused r) = ((least ≤ r) × (r ≤ 6)) ⊎ (r ≡ 14)
 Judged least Claim (accepted f) = Claim f
 
 -- of the shape of s: the frame is valid, and s is its bytes
@@ -159,16 +163,17 @@ module _ (s head : List ℕ) (w m : ℕ) where
       let n : length found ≡ m = length-pairs s (total head) w m in
       record { long = rw n long; fields = refl; pairs = rw n; fill = rw n fill }
 
-  check-sound : (make : List Pair → Frame) → (positive found ≡ true → rising found ≡ true → Valid (make found))
-      → encode (make found) ≡ written head w (scan s 0 head) found → Sound s (check s head w m (λ ps. accepted (make ps)))
+  check-sound : (known : Bool) (make : List Pair → Frame) → (positive found ≡ true → rising found ≡ true → Valid (make found))
+      → (known ≡ true → encode (make found) ≡ written head w (scan s 0 head) found) → Sound s (check s head w m known (λ ps. accepted (make ps)))
   unfolding check
-  check-sound make valid is =
+  check-sound known make valid is =
       let b : ℕ = bitsOf head w m in
-      or-refused (Sound s) (eqb (length s) (bytesFor b)) (lit≤ tt, lit≤ tt)
-      (λ long. or-refused (Sound s) (eqb (field s b (fillAfter b)) 0) (lit≤ tt, lit≤ tt)
-      (λ fill. or-refused (Sound s) (positive found) (lit≤ tt, lit≤ tt)
-      (λ p. or-refused (Sound s) (rising found) (lit≤ tt, lit≤ tt)
-      (λ o. (valid p o, λ h. reads-written head w (scan s 0 head) found s h (found-reads (eqb-true (length s) (bytesFor b) long) (eqb-true (field s b (fillAfter b)) 0 fill)) ∙ sym is)))))
+      or-refused (Sound s) (eqb (length s) (bytesFor b)) (inl (lit≤ tt, lit≤ tt))
+      (λ long. or-refused (Sound s) (eqb (field s b (fillAfter b)) 0) (inl (lit≤ tt, lit≤ tt))
+      (λ fill. or-refused (Sound s) known (inr refl)
+      (λ k. or-refused (Sound s) (positive found) (inl (lit≤ tt, lit≤ tt))
+      (λ p. or-refused (Sound s) (rising found) (inl (lit≤ tt, lit≤ tt))
+      (λ o. (valid p o, λ h. reads-written head w (scan s 0 head) found s h (found-reads (eqb-true (length s) (bytesFor b) long) (eqb-true (field s b (fillAfter b)) 0 fill)) ∙ sym (is k)))))))
 
 -- the pairs that follow a field for their number less one
 module _ (s : List ℕ) (at w n : ℕ) where
@@ -187,20 +192,42 @@ module _ (s : List ℕ) (at w n : ℕ) where
 
 -- ---- the kinds
 
-pub no-row : (k : ℕ) → (k ≡ 1 → ⊥) → (k ≡ 2 → ⊥) → (k ≡ 3 → ⊥) → (k ≡ 4 → ⊥) → (k ≡ 5 → ⊥) → rowOf k ≡ noRow
+pub no-row : (k : ℕ) → (k ≡ 1 → ⊥) → (k ≡ 2 → ⊥) → (k ≡ 3 → ⊥) → (k ≡ 4 → ⊥) → (k ≡ 5 → ⊥) → (k ≡ 6 → ⊥) → rowOf k ≡ noRow
 unfolding rowOf
-no-row k a b c d e = rw (ne-eqb k 1 a, ne-eqb k 2 b, ne-eqb k 3 c, ne-eqb k 4 d, ne-eqb k 5 e)
+no-row k a b c d e f = rw (ne-eqb k 1 a, ne-eqb k 2 b, ne-eqb k 3 c, ne-eqb k 4 d, ne-eqb k 5 e, ne-eqb k 6 f)
 
 -- a claim about every kind, from the claims about those with a row and about the others
-pub by-kind : (P : ℕ → Type 0) → P 1 → P 2 → P 3 → P 4 → P 5 → ((k : ℕ) → rowOf k ≡ noRow → P k) → (k : ℕ) → P k
-by-kind P a b c d e f zero = f zero (no-row zero (λ z. omega arith) (λ z. omega arith) (λ z. omega arith) (λ z. omega arith) (λ z. omega arith))
-by-kind P a b c d e f (suc zero) = a
-by-kind P a b c d e f (suc (suc zero)) = b
-by-kind P a b c d e f (suc (suc (suc zero))) = c
-by-kind P a b c d e f (suc (suc (suc (suc zero)))) = d
-by-kind P a b c d e f (suc (suc (suc (suc (suc zero))))) = e
-by-kind P a b c d e f (suc (suc (suc (suc (suc (suc k)))))) =
-    f (suc (suc (suc (suc (suc (suc k)))))) (no-row _ (λ z. omega arith) (λ z. omega arith) (λ z. omega arith) (λ z. omega arith) (λ z. omega arith))
+pub by-kind : (P : ℕ → Type 0) → P 1 → P 2 → P 3 → P 4 → P 5 → P 6 → ((k : ℕ) → rowOf k ≡ noRow → P k) → (k : ℕ) → P k
+by-kind P a b c d e f g zero =
+    g zero (no-row zero (λ z. omega arith) (λ z. omega arith) (λ z. omega arith) (λ z. omega arith) (λ z. omega arith) (λ z. omega arith))
+by-kind P a b c d e f g (suc zero) = a
+by-kind P a b c d e f g (suc (suc zero)) = b
+by-kind P a b c d e f g (suc (suc (suc zero))) = c
+by-kind P a b c d e f g (suc (suc (suc (suc zero)))) = d
+by-kind P a b c d e f g (suc (suc (suc (suc (suc zero))))) = e
+by-kind P a b c d e f g (suc (suc (suc (suc (suc (suc zero)))))) = f
+by-kind P a b c d e f g (suc (suc (suc (suc (suc (suc (suc k))))))) =
+    g (suc (suc (suc (suc (suc (suc (suc k)))))))
+    (no-row _ (λ z. omega arith) (λ z. omega arith) (λ z. omega arith) (λ z. omega arith) (λ z. omega arith) (λ z. omega arith))
+
+-- ---- grades
+
+-- a number that is a grade is its urgency's
+pub level-of : (v : ℕ) → v ≤ 2 → level (urgencyOf v) ≡ v
+level-of zero h = refl
+level-of (suc zero) h = refl
+level-of (suc (suc zero)) h = refl
+level-of (suc (suc (suc v))) h = absurd (omega arith)
+
+pub level-most : (u : Urgency) → level u ≤ 2
+level-most routine = lit≤ tt
+level-most important = lit≤ tt
+level-most vital = lit≤ tt
+
+pub of-level : (u : Urgency) → urgencyOf (level u) ≡ u
+of-level routine = refl
+of-level important = refl
+of-level vital = refl
 
 -- ---- bytes to frame, kind by kind
 
@@ -209,14 +236,14 @@ unfolding shapeOfKind
 unknown-shape s k e = rw e
 
 kind-sound : (s : List ℕ) (k : ℕ) → field s 0 4 ≡ k → Sound s (shapeOfKind k s)
-unfolding shapeOfKind rowOf frameOf encode scan total pairsAt
+unfolding shapeOfKind rowOf frameOf encode scan total pairsAt gradesKnown
 kind-sound s =
     by-kind (λ k. field s 0 4 ≡ k → Sound s (shapeOfKind k s))
-    (λ e. check-sound s (widths messageRow) countWidth (field s 56 4 + 1) (message (field s 4 32) (field s 36 20))
+    (λ e. check-sound s (widths messageRow) countWidth (field s 56 4 + 1) true (message (field s 4 32) (field s 36 20) ungraded)
     (λ p o. record { time = field-lt s 4 32; serial = field-lt s 36 20; pairs = pairs-valid s 60 countWidth (field s 56 4) mostPairs (field-lt s 56 4) p o })
-    (rw (e, less-one s 60 countWidth (field s 56 4))))
-    (λ e. check-sound s (widths tickRow) 0 0 (λ _. tick (field s 4 32)) (λ _ _. field-lt s 4 32) (rw e))
-    (λ e. check-sound s (widths registerRow) weightWidth (field s 45 3 + 1) (register (field s 4 32) (field s 36 5) (field s 41 4 + 1))
+    (λ _. rw (e, less-one s 60 countWidth (field s 56 4))))
+    (λ e. check-sound s (widths tickRow) 0 0 true (λ _. tick (field s 4 32)) (λ _ _. field-lt s 4 32) (λ _. rw e))
+    (λ e. check-sound s (widths registerRow) weightWidth (field s 45 3 + 1) true (register (field s 4 32) (field s 36 5) (field s 41 4 + 1))
     (λ p o. record {
       time = field-lt s 4 32;
       number = field-lt s 36 5;
@@ -224,16 +251,20 @@ kind-sound s =
       k-most = omega (arith, field-lt s 41 4);
       terms = pairs-valid s 48 weightWidth (field s 45 3) mostTerms (field-lt s 45 3) p o;
     })
-    (rw (e, less-one s 48 weightWidth (field s 45 3), add-sub-cancel (field s 41 4) 1)))
-    (λ e. check-sound s (widths unregisterRow) 0 0 (λ _. unregister (field s 4 32) (field s 36 5)) (λ _ _. (field-lt s 4 32, field-lt s 36 5)) (rw e))
-    (λ e. check-sound s (widths cancelRow) 0 0 (λ _. cancel (field s 4 32) (field s 36 20)) (λ _ _. (field-lt s 4 32, field-lt s 36 20)) (rw e))
-    (λ k none e. rw (unknown-shape s k none) (lit≤ tt, lit≤ tt))
+    (λ _. rw (e, less-one s 48 weightWidth (field s 45 3), add-sub-cancel (field s 41 4) 1)))
+    (λ e. check-sound s (widths unregisterRow) 0 0 true (λ _. unregister (field s 4 32) (field s 36 5)) (λ _ _. (field-lt s 4 32, field-lt s 36 5)) (λ _. rw e))
+    (λ e. check-sound s (widths cancelRow) 0 0 true (λ _. cancel (field s 4 32) (field s 36 20)) (λ _ _. (field-lt s 4 32, field-lt s 36 20)) (λ _. rw e))
+    (λ e. check-sound s (widths gradedRow) countWidth (field s 58 4 + 1) (leb (field s 56 2) 2 && true)
+    (message (field s 4 32) (field s 36 20) (graded (urgencyOf (field s 56 2))))
+    (λ p o. record { time = field-lt s 4 32; serial = field-lt s 36 20; pairs = pairs-valid s 62 countWidth (field s 58 4) mostPairs (field-lt s 58 4) p o })
+    (λ known. rw (e, less-one s 62 countWidth (field s 58 4), level-of (field s 56 2) (leb-true (field s 56 2) 2 (and-true (leb (field s 56 2) 2) true known .0)))))
+    (λ k none e. rw (unknown-shape s k none) (inl (lit≤ tt, lit≤ tt)))
 
 shape-sound : (s : List ℕ) → Sound s (shape s)
 unfolding shape
-shape-sound s = by-test (Sound s) (ltb (length s) 5) (λ _. (lit≤ tt, lit≤ tt)) (λ _. kind-sound s (field s 0 4) refl)
+shape-sound s = by-test (Sound s) (ltb (length s) 5) (λ _. inl (lit≤ tt, lit≤ tt)) (λ _. kind-sound s (field s 0 4) refl)
 
-pub shape-number : (s : List ℕ) (r : ℕ) → shape s ≡ refused r → (1 ≤ r) × (r ≤ 6)
+pub shape-number : (s : List ℕ) (r : ℕ) → shape s ≡ refused r → ((1 ≤ r) × (r ≤ 6)) ⊎ (r ≡ 14)
 shape-number s r e = subst (Sound s) e (shape-sound s)
 
 pub shape-valid : (s : List ℕ) (f : Frame) → shape s ≡ accepted f → Valid f
@@ -252,10 +283,17 @@ at i e = ap (λ (x : List ℕ). getD x i 0) e
 more : {n m : ℕ} → n ≡ m - 1 → 1 ≤ m → n + 1 ≡ m
 more e h = omega arith
 
+-- an urgency from the field that says its number
+grade-read : {n : ℕ} (u : Urgency) → n ≡ level u → (leb n 2 && true) ≡ true
+grade-read {n} u e = rw (le-leb n 2 (omega (arith, level-most u)))
+
+urgency-read : {n : ℕ} (u : Urgency) → n ≡ level u → urgencyOf n ≡ u
+urgency-read u e = ap urgencyOf e ∙ of-level u
+
 -- what is written with these values after the kind is accepted, if they lead to the check of the pairs
 accepts : (k : ℕ) (head : List ℕ) (w : ℕ) (values : List ℕ) (ps : List Pair) (make : List Pair → Frame) → 29 ≤ total head
     → Fit (4 ∷ head) (k ∷ values) → AllFit w ps → positive ps ≡ true → rising ps ≡ true
-    → ((s : List ℕ) → scan s 0 (4 ∷ head) ≡ k ∷ values → shapeOfKind k s ≡ check s (4 ∷ head) w (length ps) (λ qs. accepted (make qs)))
+    → ((s : List ℕ) → scan s 0 (4 ∷ head) ≡ k ∷ values → shapeOfKind k s ≡ check s (4 ∷ head) w (length ps) true (λ qs. accepted (make qs)))
     → shape (written (4 ∷ head) w (k ∷ values) ps) ≡ accepted (make ps)
 unfolding shape total scan
 accepts k head w values ps make long fit all-fit p o is =
@@ -264,31 +302,41 @@ accepts k head w values ps make long fit all-fit p o is =
     rw (le-ltb (length s) 5 (omega arith), at 0 (r .fields), is s (r .fields)) (check-reads s (4 ∷ head) w (k ∷ values) ps make r p o)
 
 pub shape-encode : (f : Frame) → Valid f → shape (encode f) ≡ accepted f
-unfolding encode scan total shapeOfKind rowOf frameOf positive rises
-shape-encode (message t n ps) v =
+unfolding encode scan total shapeOfKind rowOf frameOf positive rises gradesKnown
+shape-encode (message t n ungraded ps) v =
     let p = v .pairs in
-    accepts 1 _ countWidth _ ps (message t n) (lit≤ tt) (lit< tt, (v .time, (v .serial, (omega arith, tt)))) (p .fit) (p .above-zero) (p .in-order)
-    (λ s e i. check s (widths messageRow) countWidth (more (at 3 e) (p .least-one) i) (λ qs. accepted (message (at 1 e i) (at 2 e i) qs)))
+    accepts 1 _ countWidth _ ps (message t n ungraded) (lit≤ tt) (lit< tt, (v .time, (v .serial, (omega arith, tt)))) (p .fit) (p .above-zero) (p .in-order)
+    (λ s e i. check s (widths messageRow) countWidth (more (at 3 e) (p .least-one) i) true (λ qs. accepted (message (at 1 e i) (at 2 e i) ungraded qs)))
+shape-encode (message t n (graded u) ps) v =
+    let p = v .pairs in
+    let few : level u ≤ 2 = level-most u in
+    accepts 6 _ countWidth _ ps (message t n (graded u)) (lit≤ tt) (lit< tt, (v .time, (v .serial, (omega arith, (omega arith, tt)))))
+    (p .fit) (p .above-zero) (p .in-order)
+    (λ s e i. check s (widths gradedRow) countWidth (more (at 4 e) (p .least-one) i) (grade-read u (at 3 e) i)
+    (λ qs. accepted (message (at 1 e i) (at 2 e i) (graded (urgency-read u (at 3 e) i)) qs)))
 shape-encode (tick t) v =
     accepts 2 _ 0 _ [] (λ _. tick t) (lit≤ tt) (lit< tt, (v, tt)) tt refl refl
-    (λ s e i. check s (widths tickRow) 0 0 (λ _. accepted (tick (at 1 e i))))
+    (λ s e i. check s (widths tickRow) 0 0 true (λ _. accepted (tick (at 1 e i))))
 shape-encode (register t n k ps) v =
     let p = v .terms in
     accepts 3 _ weightWidth _ ps (register t n k) (lit≤ tt) (lit< tt, (v .time, (v .number, (omega arith, (omega arith, tt)))))
     (p .fit) (p .above-zero) (p .in-order)
-    (λ s e i. check s (widths registerRow) weightWidth (more (at 4 e) (p .least-one) i)
+    (λ s e i. check s (widths registerRow) weightWidth (more (at 4 e) (p .least-one) i) true
     (λ qs. accepted (register (at 1 e i) (at 2 e i) (more (at 3 e) (v .k-least) i) qs)))
 shape-encode (unregister t n) v =
     accepts 4 _ 0 _ [] (λ _. unregister t n) (lit≤ tt) (lit< tt, (v .0, (v .1, tt))) tt refl refl
-    (λ s e i. check s (widths unregisterRow) 0 0 (λ _. accepted (unregister (at 1 e i) (at 2 e i))))
+    (λ s e i. check s (widths unregisterRow) 0 0 true (λ _. accepted (unregister (at 1 e i) (at 2 e i))))
 shape-encode (cancel t n) v =
     accepts 5 _ 0 _ [] (λ _. cancel t n) (lit≤ tt) (lit< tt, (v .0, (v .1, tt))) tt refl refl
-    (λ s e i. check s (widths cancelRow) 0 0 (λ _. accepted (cancel (at 1 e i) (at 2 e i))))
+    (λ s e i. check s (widths cancelRow) 0 0 true (λ _. accepted (cancel (at 1 e i) (at 2 e i))))
 
--- no frame is longer than a message of as many pairs as one can have
-pub encode-most : (f : Frame) → Valid f → length (encode f) ≤ bytesFor (bitsOf (widths messageRow) countWidth mostPairs)
+-- no frame is longer than a graded message of as many pairs as one can have
+pub encode-most : (f : Frame) → Valid f → length (encode f) ≤ bytesFor (bitsOf (widths gradedRow) countWidth mostPairs)
 unfolding encode total
-encode-most (message t s ps) v = let m = v .pairs .at-most in omega (arith, encode-length (widths messageRow) countWidth (1 ∷ t ∷ s ∷ (length ps - 1) ∷ []) ps)
+encode-most (message t s ungraded ps) v =
+    let m = v .pairs .at-most in omega (arith, encode-length (widths messageRow) countWidth (1 ∷ t ∷ s ∷ (length ps - 1) ∷ []) ps)
+encode-most (message t s (graded u) ps) v =
+    let m = v .pairs .at-most in omega (arith, encode-length (widths gradedRow) countWidth (6 ∷ t ∷ s ∷ level u ∷ (length ps - 1) ∷ []) ps)
 encode-most (tick t) v = omega (arith, encode-length (widths tickRow) 0 (2 ∷ t ∷ []) [])
 encode-most (register t n k ps) v =
     let m = v .terms .at-most in omega (arith, encode-length (widths registerRow) weightWidth (3 ∷ t ∷ n ∷ (k - 1) ∷ (length ps - 1) ∷ []) ps)

@@ -10,7 +10,7 @@ use lib.ListN.{length, set, replicate, length-set}
 use lib.Dec.{eqb, ltb}
 use borrow.Author.Tests.{ltb-false, eqb-true, eqb-false, ne-eqb}
 use Rattle.paper.proofs.Tests.{or-false, not-refused, by-bool}
-use Rattle.paper.specs.Frame.{Pair, Frame, Shape, Valid, shape, numbers}
+use Rattle.paper.specs.Frame.{Pair, Form, Frame, Shape, Valid, gradeOf, shape, numbers}
 use Rattle.paper.specs.Frame.Frame.{message, tick, register, unregister, cancel}
 use Rattle.paper.specs.Frame.Shape.{refused, accepted}
 use Rattle.paper.specs.Sort.{select}
@@ -144,7 +144,7 @@ no-query (some x ∷ qs) (suc n) a = (a .0, no-query qs n (a .1))
 -- ---- a frame that the log accepts
 
 valid-time : (f : Frame) → Valid f → timeOf f < 2 ^ 32
-valid-time (message t s ps) v = v .time
+valid-time (message t s g ps) v = v .time
 valid-time (tick t) v = v
 valid-time (register t n k ps) v = v .time
 valid-time (unregister t n) v = v .0
@@ -169,7 +169,7 @@ module _ (log : Log) (f : Frame) (sound : Sound log) (ok : judgeFrame log f ≡ 
 -- an arriving message is in force
 arrive : (N T : ℕ) (f : Frame) → 1 ≤ N → (inForce N T (timeOf f) (arrivals f) ≡ arrivals f) × (filled N T (timeOf f) (arrivals f) ≡ arrivals f)
 unfolding inForce filled
-arrive N T (message t s ps) n = let e = filling-true N T t 0 (arrival t s ps) n (omega arith) in (rw e, rw e)
+arrive N T (message t s g ps) n = let e = filling-true N T t 0 (arrival t s (gradeOf g) ps) n (omega arith) in (rw e, rw e)
 arrive N T (tick t) n = (refl, refl)
 arrive N T (register t m k ps) n = (refl, refl)
 arrive N T (unregister t m) n = (refl, refl)
@@ -270,40 +270,40 @@ sees log f q sound ok = record {
 }
 
 -- the serial of an arriving message isn't among those that stay
-new-serial : (log : Log) (t s : ℕ) (ps : List Pair) → Sound log → judgeFrame log (message t s ps) ≡ 0 → hasSerial s (stays log (message t s ps)) ≡ false
-new-serial log t s ps sound ok =
-    let free : hasSerial s (inForceAt log t) ≡ false = not-refused (hasSerial s (inForceAt log t)) 7 0 (kind-ok log (message t s ps) sound ok) .0 in
-    let off : ℕ → Message → Bool = cancels log (message t s ps) in
+new-serial : (log : Log) (t s : ℕ) (g : Form) (ps : List Pair) → Sound log → judgeFrame log (message t s g ps) ≡ 0 → hasSerial s (stays log (message t s g ps)) ≡ false
+new-serial log t s g ps sound ok =
+    let free : hasSerial s (inForceAt log t) ≡ false = not-refused (hasSerial s (inForceAt log t)) 7 0 (kind-ok log (message t s g ps) sound ok) .0 in
+    let off : ℕ → Message → Bool = cancels log (message t s g ps) in
     rw (
-      stays-places log (message t s ps) (λ j m. refl) sound ok,
+      stays-places log (message t s g ps) (λ j m. refl) sound ok,
       ← (remaining-staying (log .N) (log .T) t t 1 off (λ j m. refl) (le-refl t) (log .messages)),
     )
     (serial-split s (departing-remaining (log .N) (log .T) t t 1 off (log .messages)) free)
 
 distinct-after : (log : Log) (f : Frame) → Sound log → judgeFrame log f ≡ 0 → Distinct (stays log f ++ arrivals f)
-distinct-after log (message t s ps) sound ok =
-    distinct-snoc (stays log (message t s ps)) (arrival t s ps) (distinct-stays log (message t s ps) sound ok) (new-serial log t s ps sound ok)
+distinct-after log (message t s g ps) sound ok =
+    distinct-snoc (stays log (message t s g ps)) (arrival t s (gradeOf g) ps) (distinct-stays log (message t s g ps) sound ok) (new-serial log t s g ps sound ok)
 distinct-after log (tick t) sound ok = rw append-nil (distinct-stays log (tick t) sound ok)
 distinct-after log (register t n k ps) sound ok = rw append-nil (distinct-stays log (register t n k ps) sound ok)
 distinct-after log (unregister t n) sound ok = rw append-nil (distinct-stays log (unregister t n) sound ok)
 distinct-after log (cancel t s) sound ok = rw append-nil (distinct-stays log (cancel t s) sound ok)
 
 arrivals-from : (f : Frame) (c : ℕ) → c ≤ timeOf f → From c (arrivals f) × Chronological (timeOf f) (arrivals f)
-arrivals-from (message t s ps) c h = ((h, tt), (le-refl t, tt, tt))
+arrivals-from (message t s g ps) c h = ((h, tt), (le-refl t, tt, tt))
 arrivals-from (tick t) c h = (tt, tt)
 arrivals-from (register t n k ps) c h = (tt, tt)
 arrivals-from (unregister t n) c h = (tt, tt)
 arrivals-from (cancel t s) c h = (tt, tt)
 
 pub arrivals-valid : (f : Frame) → Valid f → Messages (arrivals f)
-arrivals-valid (message t s ps) v = (v .serial, v .pairs, tt)
+arrivals-valid (message t s g ps) v = (v .serial, v .pairs, tt)
 arrivals-valid (tick t) v = tt
 arrivals-valid (register t n k ps) v = tt
 arrivals-valid (unregister t n) v = tt
 arrivals-valid (cancel t s) v = tt
 
 queries-after : (f : Frame) (qs : List (Option Query)) → Queries qs → Valid f → (length (queriesAfter f qs) ≡ length qs) × Queries (queriesAfter f qs)
-queries-after (message t s ps) qs a v = (refl, a)
+queries-after (message t s g ps) qs a v = (refl, a)
 queries-after (tick t) qs a v = (refl, a)
 queries-after (register t n k ps) qs a v =
     let q : Query = record { k = k; terms = ps } in

@@ -85,7 +85,7 @@ emptied (q ∷ qs) (suc n) = emptied qs n
 pub registered-unnamed : (log : Log) (f : Frame) (n : ℕ) (q q′ : Query) → judgeFrame log f ≡ 0 → queryAt log n ≡ some q → queryAt (accept log f) n ≡ some q′
     → names f n ≡ false
 unfolding accept
-registered-unnamed log (message t s ps) n q q′ ok b a = refl
+registered-unnamed log (message t s g ps) n q q′ ok b a = refl
 registered-unnamed log (tick t) n q q′ ok b a = refl
 registered-unnamed log (register t m k ps) n q q′ ok b a =
     by-bool (eqb m n)

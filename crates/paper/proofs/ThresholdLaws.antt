@@ -20,6 +20,7 @@ use Rattle.paper.specs.Rank.{Query, Entry, ahead, entry, scoring, entrie
 use Rattle.paper.specs.Threshold.{termAt, thresholdSum, Exceeds, exceedsBy, exceeds, candidates, reached, lastScore, Tight, Kept, Settled}
 use Rattle.paper.proofs.Tests.{by-bool, or-false, or-true}
 use Rattle.paper.proofs.SortLaws.{in-left, in-right, select-all, select-in, select-take, select-select, select-change, select-map, count-sort, best}
+use Rattle.paper.proofs.FrameLaws.{level-most}
 use Rattle.paper.proofs.RankLaws.{ranking-length, ranking-last}
 
 -- ---- what gives a term's impact
@@ -152,8 +153,8 @@ module _ (q : Query) where
     best-above : (es : List Entry) → q .k ≤ length (select (above s) es) → first es ≡ first (select (above s) es)
     best-above =
         best ahead (above s)
-        (λ e x p n. omega (arith, ltb-true, ltb-false, le-leb))
-        (λ e x n p. omega (arith, ltb-true, ltb-false, lt-leb))
+        (λ e x p n. omega (arith, ltb-true, ltb-false, le-leb, level-most (x .of .urgency)))
+        (λ e x n p. omega (arith, ltb-true, ltb-false, lt-leb, level-most (e .of .urgency)))
         (q .k)
 
     -- of a full list whose last score is above s all are
@@ -236,17 +237,20 @@ settled-again q ms ms′ kept cs s e c =
       short = subst (λ l. length l < q .k → (i : ℕ) → getD hs i 0 ≡ 0) e (s .short);
     }
 
--- messages with the same candidates
-pub settled-same : (q : Query) (ms ms′ : List Message) (kept : Kept) → Settled q ms kept
-    → candidates (q .terms) (kept .thresholds) ms ≡ candidates (q .terms) (kept .thresholds) ms′ → Settled q ms′ kept
-settled-same q ms ms′ kept s c =
+-- messages with the same candidates have the same ranking
+pub ranking-same : (q : Query) (ms ms′ : List Message) (kept : Kept) → Settled q ms kept
+    → candidates (q .terms) (kept .thresholds) ms ≡ candidates (q .terms) (kept .thresholds) ms′ → ranking q ms ≡ ranking q ms′
+ranking-same q ms ms′ kept s c =
     let hs = kept .thresholds in
     let safe = settled-safe q ms kept s in
     let exceeding : Message → Bool = λ m. exceeds (q .terms) hs (m .pairs) in
     let same : ranking q ms ≡ ranking q (candidates (q .terms) hs ms′) = sym (candidates-keep q hs (s .one-each) exceeding (λ m x. x) ms safe) ∙ ap (ranking q) c in
     let safe′ = subst (Safe (thresholdSum (q .terms) hs) (q .k)) same safe in
-    let e : ranking q ms ≡ ranking q ms′ = same ∙ candidates-enough q hs (s .one-each) exceeding (λ m x. x) ms′ safe′ in
-    settled-again q ms ms′ kept (kept .candidates) s e (s .above ∙ ap serials c)
+    same ∙ candidates-enough q hs (s .one-each) exceeding (λ m x. x) ms′ safe′
+
+pub settled-same : (q : Query) (ms ms′ : List Message) (kept : Kept) → Settled q ms kept
+    → candidates (q .terms) (kept .thresholds) ms ≡ candidates (q .terms) (kept .thresholds) ms′ → Settled q ms′ kept
+settled-same q ms ms′ kept s c = settled-again q ms ms′ kept (kept .candidates) s (ranking-same q ms ms′ kept s c) (s .above ∙ ap serials c)
 
 unreached : (qs : List Pair) (hs : List ℕ) (ms : List Message) → reached qs hs ms ≡ false → (m : Message) → In m ms → exceeds qs hs (m .pairs) ≡ false
 unfolding reached

@@ -1,19 +1,22 @@
--- The laws of the writer's definition: what it accepts is a valid frame, every valid frame comes from its fields, and a refusal's number is 2 to 6.
+-- The laws of the writer's definition: what it accepts is a valid frame, every valid frame comes from its fields, and a refusal's number is 2 to 6 or 14.
 -- Assumes nothing.
 use mathlib.Core.Path.{_≡_, refl, sym, ap, subst}
 use Prim.Native.Nat.{ℕ, zero, suc, _+_, _-_, _^_, _≤_, _<_}
 use native.Mathlib.Nat.{not-suc-le-zero, add-sub-cancel}
 use native.Mathlib.Omega.{arith}
 use mathlib.Core.Bool.{Bool, true, false, _&&_}
+use mathlib.Core.Logic.{_⊎_, inl, inr}
 use mathlib.Core.List.{List, [], _∷_, map}
 use lib.ListN.{length, length-map}
 use lib.Dec.{ltb, lit≤}
 use borrow.Author.Tests.{ltb-true, leb-true, lt-ltb, le-leb}
-use Rattle.paper.specs.Frame.{Pair, Frame, Fields, Row, Pairs, AllFit, Valid, noRow, rowOf, messageRow, tickRow, registerRow, unregisterRow, cancelRow, frameOf, judged, writtenBy, countWidth, weightWidth, mostPairs, mostTerms, encode, shape, positive, rises, rising}
+use Rattle.paper.specs.Frame.{Pair, Frame, Fields, Row, Pairs, AllFit, Valid, level, urgencyOf, noRow, rowOf, messageRow, tickRow, registerRow, unregisterRow}
+use Rattle.paper.specs.Frame.{cancelRow, gradedRow, frameOf, gradesKnown, judged, writtenBy, countWidth, weightWidth, mostPairs, mostTerms, encode, shape, positive, rises, rising}
 use Rattle.paper.specs.Frame.Frame.{message, tick, register, unregister, cancel}
+use Rattle.paper.specs.Frame.Form.{ungraded, graded}
 use Rattle.paper.specs.Frame.Shape.{refused, accepted}
 use Rattle.paper.specs.Write.{side-by-side, allWithin, headWithin, valueOf, pairsTaken, pairsWithin, pairsOf, pairsIn, fromKind, fromFields, fieldsWith, fieldsOf}
-use Rattle.paper.proofs.FrameLaws.{or-refused, Judged, by-kind, shape-encode}
+use Rattle.paper.proofs.FrameLaws.{or-refused, Judged, by-kind, level-of, level-most, of-level, shape-encode}
 
 -- ---- tests
 
@@ -68,28 +71,30 @@ pairs-within w most n ts us l m t a e o =
 
 -- ---- what is accepted
 
-judged-sound : (t : Bool) (ps : List Pair) (f : Frame) → (t ≡ true → rising ps ≡ true → Valid f) → Judged 2 Valid (judged t ps (accepted f))
-judged-sound t ps f h =
-    or-refused (Judged 2 Valid) t (lit≤ tt, lit≤ tt) (λ e. or-refused (Judged 2 Valid) (rising ps) (lit≤ tt, lit≤ tt) (h e))
+judged-sound : (known t : Bool) (ps : List Pair) (f : Frame) → (t ≡ true → rising ps ≡ true → Valid f) → Judged 2 Valid (judged known t ps (accepted f))
+judged-sound known t ps f h =
+    or-refused (Judged 2 Valid) known (inr refl)
+    (λ _. or-refused (Judged 2 Valid) t (inl (lit≤ tt, lit≤ tt)) (λ e. or-refused (Judged 2 Valid) (rising ps) (inl (lit≤ tt, lit≤ tt)) (h e)))
 
 pub unknown-kind : (x : Fields) (k : ℕ) → rowOf k ≡ noRow → fromKind k x ≡ refused 2
 unfolding fromKind
 unknown-kind x k e = rw e
 
 kind-sound : (x : Fields) (k : ℕ) → Judged 2 Valid (fromKind k x)
-unfolding fromKind rowOf frameOf headWithin
+unfolding fromKind rowOf frameOf headWithin gradesKnown
 kind-sound x =
     let m = x .pairs in
     let ts = x .terms in
     let us = x .amounts in
     by-kind (λ k. Judged 2 Valid (fromKind k x))
-    (judged-sound (headWithin (messageRow .head) x && pairsWithin messageRow x) (side-by-side m ts us) (message (x .time) (x .serial) (side-by-side m ts us)) (λ e o. record {
+    (judged-sound true (headWithin (messageRow .head) x && pairsWithin messageRow x) (side-by-side m ts us)
+    (message (x .time) (x .serial) ungraded (side-by-side m ts us)) (λ e o. record {
       time = search facts;
       serial = search facts;
       pairs = pairs-within countWidth mostPairs m ts us (search facts) (search facts) (search facts) (search facts) (search facts) o;
     }))
-    (judged-sound (headWithin (tickRow .head) x && pairsWithin tickRow x) (side-by-side 0 ts us) (tick (x .time)) (λ e _. search facts))
-    (judged-sound (headWithin (registerRow .head) x && pairsWithin registerRow x) (side-by-side m ts us) (register (x .time) (x .number) (x .k - 1 + 1) (side-by-side m ts us)) (λ e o.
+    (judged-sound true (headWithin (tickRow .head) x && pairsWithin tickRow x) (side-by-side 0 ts us) (tick (x .time)) (λ e _. search facts))
+    (judged-sound true (headWithin (registerRow .head) x && pairsWithin registerRow x) (side-by-side m ts us) (register (x .time) (x .number) (x .k - 1 + 1) (side-by-side m ts us)) (λ e o.
     let l : 0 < x .k = search facts in
     let u : x .k ≤ 2 ^ 4 = search facts in
     record {
@@ -99,9 +104,15 @@ kind-sound x =
       k-most = omega arith;
       terms = pairs-within weightWidth mostTerms m ts us (search facts) (search facts) (search facts) (search facts) (search facts) o;
     }))
-    (judged-sound (headWithin (unregisterRow .head) x && pairsWithin unregisterRow x) (side-by-side 0 ts us) (unregister (x .time) (x .number)) (λ e _. (search facts, search facts)))
-    (judged-sound (headWithin (cancelRow .head) x && pairsWithin cancelRow x) (side-by-side 0 ts us) (cancel (x .time) (x .serial)) (λ e _. (search facts, search facts)))
-    (λ k none. rw (unknown-kind x k none) (lit≤ tt, lit≤ tt))
+    (judged-sound true (headWithin (unregisterRow .head) x && pairsWithin unregisterRow x) (side-by-side 0 ts us) (unregister (x .time) (x .number)) (λ e _. (search facts, search facts)))
+    (judged-sound true (headWithin (cancelRow .head) x && pairsWithin cancelRow x) (side-by-side 0 ts us) (cancel (x .time) (x .serial)) (λ e _. (search facts, search facts)))
+    (judged-sound (gradesKnown (gradedRow .head) (map (valueOf x) (gradedRow .head))) (headWithin (gradedRow .head) x && pairsWithin gradedRow x) (side-by-side m ts us)
+    (message (x .time) (x .serial) (graded (urgencyOf (x .urgency))) (side-by-side m ts us)) (λ e o. record {
+      time = search facts;
+      serial = search facts;
+      pairs = pairs-within countWidth mostPairs m ts us (search facts) (search facts) (search facts) (search facts) (search facts) o;
+    }))
+    (λ k none. rw (unknown-kind x k none) (inl (lit≤ tt, lit≤ tt)))
 
 fields-sound : (x : Fields) → Judged 2 Valid (fromFields x)
 fields-sound x = kind-sound x (x .kind)
@@ -109,7 +120,7 @@ fields-sound x = kind-sound x (x .kind)
 pub fields-valid : (x : Fields) (f : Frame) → fromFields x ≡ accepted f → Valid f
 fields-valid x f e = subst (Judged 2 Valid) e (fields-sound x)
 
-pub fields-number : (x : Fields) (r : ℕ) → fromFields x ≡ refused r → (2 ≤ r) × (r ≤ 6)
+pub fields-number : (x : Fields) (r : ℕ) → fromFields x ≡ refused r → ((2 ≤ r) × (r ≤ 6)) ⊎ (r ≡ 14)
 fields-number x r e = subst (Judged 2 Valid) e (fields-sound x)
 
 -- what the writer writes is read back
@@ -124,16 +135,23 @@ pub record Made (x : Fields) (k : ℕ) : Type 0 where
   pub is : frameOf k (map (valueOf x) (rowOf k .head)) (pairsOf (rowOf k) x) ≡ accepted frame
   pub spelled : encode frame ≡ writtenBy (rowOf k) (k ∷ map (valueOf x) (rowOf k .head)) (pairsOf (rowOf k) x)
 
-pub made : (x : Fields) (k : ℕ) → 0 < length (rowOf k .head) → length (pairsOf (rowOf k) x) ≡ pairsTaken (rowOf k) x → Made x k
-unfolding rowOf frameOf encode side-by-side
+pub made : (x : Fields) (k : ℕ) → 0 < length (rowOf k .head) → gradesKnown (rowOf k .head) (map (valueOf x) (rowOf k .head)) ≡ true
+    → length (pairsOf (rowOf k) x) ≡ pairsTaken (rowOf k) x → Made x k
+unfolding rowOf frameOf encode side-by-side gradesKnown
 made x =
-    by-kind (λ k. 0 < length (rowOf k .head) → length (pairsOf (rowOf k) x) ≡ pairsTaken (rowOf k) x → Made x k)
-    (λ _ n. record { frame = message (x .time) (x .serial) (pairsOf messageRow x); is = refl; spelled = rw n })
-    (λ _ n. record { frame = tick (x .time); is = refl; spelled = refl })
-    (λ _ n. record { frame = register (x .time) (x .number) (x .k - 1 + 1) (pairsOf registerRow x); is = refl; spelled = rw (n, add-sub-cancel (x .k - 1) 1) })
-    (λ _ n. record { frame = unregister (x .time) (x .number); is = refl; spelled = refl })
-    (λ _ n. record { frame = cancel (x .time) (x .serial); is = refl; spelled = refl })
-    (λ k none h. let z : 0 < length (noRow .head) = subst (λ (row : Row). 0 < length (row .head)) none h in absurd (omega arith))
+    by-kind (λ k. 0 < length (rowOf k .head) → gradesKnown (rowOf k .head) (map (valueOf x) (rowOf k .head)) ≡ true
+    → length (pairsOf (rowOf k) x) ≡ pairsTaken (rowOf k) x → Made x k)
+    (λ _ _ n. record { frame = message (x .time) (x .serial) ungraded (pairsOf messageRow x); is = refl; spelled = rw n })
+    (λ _ _ n. record { frame = tick (x .time); is = refl; spelled = refl })
+    (λ _ _ n. record { frame = register (x .time) (x .number) (x .k - 1 + 1) (pairsOf registerRow x); is = refl; spelled = rw (n, add-sub-cancel (x .k - 1) 1) })
+    (λ _ _ n. record { frame = unregister (x .time) (x .number); is = refl; spelled = refl })
+    (λ _ _ n. record { frame = cancel (x .time) (x .serial); is = refl; spelled = refl })
+    (λ _ e n. record {
+      frame = message (x .time) (x .serial) (graded (urgencyOf (x .urgency))) (pairsOf gradedRow x);
+      is = refl;
+      spelled = rw (n, level-of (x .urgency) (search facts));
+    })
+    (λ k none h _ _. let z : 0 < length (noRow .head) = subst (λ (row : Row). 0 < length (row .head)) none h in absurd (omega arith))
 
 -- fields in range take no more pairs than a message can have
 pub taken-most : (x : Fields) (k : ℕ) → headWithin (rowOf k .head) x ≡ true → pairsTaken (rowOf k) x ≤ mostPairs
@@ -145,6 +163,7 @@ taken-most x =
     (λ e. let h : x .pairs ≤ 2 ^ 3 = search facts in omega arith)
     (λ _. lit≤ tt)
     (λ _. lit≤ tt)
+    (λ e. search facts)
     (λ k none _. subst (λ (row : Row). pairsTaken row x ≤ mostPairs) (sym none) (lit≤ tt))
 
 -- ---- the other way
@@ -162,8 +181,26 @@ pub record Beside (ts us : List ℕ) (ps : List Pair) : Type 0 where
 
 -- a valid frame comes from its fields, whatever stands in the lists past its pairs
 pub fields-with : (f : Frame) (ts us : List ℕ) → Valid f → Beside ts us (pairsIn f) → fromFields (fieldsWith f ts us) ≡ accepted f
-unfolding fromKind rowOf frameOf headWithin rises allWithin side-by-side
-fields-with (message t s ps) ts us v b =
+unfolding fromKind rowOf frameOf headWithin rises allWithin side-by-side gradesKnown
+fields-with (message t s (graded u) ps) ts us v b =
+    let p = v .pairs in
+    let m : ℕ = length ps in
+    let few : level u ≤ 2 = level-most u in
+    rw (
+      le-leb (level u) 2 few,
+      lt-ltb t (2 ^ 32) (v .time),
+      lt-ltb s (2 ^ 20) (v .serial),
+      lt-ltb (level u) (2 ^ 2) (omega arith),
+      lt-ltb 0 m (p .least-one),
+      le-leb m mostPairs (p .at-most),
+      le-leb m (length ts) (b .terms),
+      le-leb m (length us) (b .amounts),
+      b .are,
+      fit-within countWidth ps (p .fit) (p .above-zero),
+      p .in-order,
+      of-level u,
+    )
+fields-with (message t s ungraded ps) ts us v b =
     let p = v .pairs in
     let m : ℕ = length ps in
     rw (

@@ -1,10 +1,12 @@
 -- The starred cases of document 01, "Worked passages", under document 02's age rule (T-01); C8, which moves with that rule; cancellations (T-02);
--- and rows for the order of the refusals 1 to 6: as one table. proofs/CasesHold.antt has its one theorem.
+-- urgencies (T-04); and rows for the order of the refusals 1 to 6 and 14: as one table. proofs/CasesHold.antt has its one theorem.
 -- Assumes nothing.
 use Prim.Native.Nat.{ℕ, suc}
-use mathlib.Core.List.{List, [], _∷_, map}
+use mathlib.Core.List.{List, [], _∷_, _++_, map}
 use Rattle.paper.specs.Frame.{Pair, Frame, Shape, encode, shape}
 use Rattle.paper.specs.Frame.Frame.{message, tick, register, unregister, cancel}
+use Rattle.paper.specs.Frame.Urgency.{routine, important, vital}
+use Rattle.paper.specs.Frame.Form.{ungraded, graded}
 use Rattle.paper.specs.Frame.Shape.{refused, accepted}
 use Rattle.paper.specs.Impact.{impactIn}
 use Rattle.paper.specs.Rank.{Line}
@@ -16,7 +18,7 @@ pub data Case : Type 0 where
   impacts : List ℕ → List ℕ → Case
   -- a frame; its bytes
   spelling : Frame → List ℕ → Case
-  -- bytes; their number by 1 to 6, 0 for a frame
+  -- bytes; their number by 1 to 6 and 14, 0 for a frame
   judging : List ℕ → ℕ → Case
   -- N, T and frames; after each its number, its departures, and serial and score of each entry of query 0's list
   passage : ℕ → ℕ → List (List ℕ) → List (List ℕ) → Case
@@ -75,21 +77,21 @@ registered = register 0 0 2 (at 5 1 ∷ at 9 2 ∷ [])
 abbrev pub c8 : List (List ℕ)
 c8 =
     map encode
-    (registered ∷ message 20 2 (at 5 1 ∷ []) ∷ tick 120 ∷ message 120 2 (at 5 1 ∷ []) ∷ tick 121 ∷ message 121 2 (at 5 1 ∷ []) ∷ [])
+    (registered ∷ message 20 2 ungraded (at 5 1 ∷ []) ∷ tick 120 ∷ message 120 2 ungraded (at 5 1 ∷ []) ∷ tick 121 ∷ message 121 2 ungraded (at 5 1 ∷ []) ∷ [])
 
 abbrev pub c9 : List (List ℕ)
-c9 = map encode (registered ∷ message 10 1 (at 5 1 ∷ []) ∷ message 20 2 (at 5 1 ∷ []) ∷ [])
+c9 = map encode (registered ∷ message 10 1 ungraded (at 5 1 ∷ []) ∷ message 20 2 ungraded (at 5 1 ∷ []) ∷ [])
 
 abbrev pub c10 : List (List ℕ)
 c10 =
     map encode
     (registered
-    ∷ message 10 1 (at 5 3 ∷ at 9 4 ∷ [])
-    ∷ message 20 2 (at 5 1 ∷ [])
-    ∷ message 30 3 (at 9 1 ∷ at 40 1 ∷ [])
-    ∷ message 40 4 (at 5 1 ∷ at 6 2 ∷ [])
+    ∷ message 10 1 ungraded (at 5 3 ∷ at 9 4 ∷ [])
+    ∷ message 20 2 ungraded (at 5 1 ∷ [])
+    ∷ message 30 3 ungraded (at 9 1 ∷ at 40 1 ∷ [])
+    ∷ message 40 4 ungraded (at 5 1 ∷ at 6 2 ∷ [])
     ∷ tick 120
-    ∷ message 119 9 (at 5 1 ∷ [])
+    ∷ message 119 9 ungraded (at 5 1 ∷ [])
     ∷ [])
 
 -- The best message cancelled: its serial is free at once, and it leaves for N uncounted. Then 7 before 13, and 13 for one that is past.
@@ -97,13 +99,13 @@ abbrev pub cancelled : List (List ℕ)
 cancelled =
     map encode
     (registered
-    ∷ message 10 1 (at 5 3 ∷ at 9 4 ∷ [])
-    ∷ message 20 2 (at 5 1 ∷ [])
-    ∷ message 30 3 (at 9 1 ∷ at 40 1 ∷ [])
+    ∷ message 10 1 ungraded (at 5 3 ∷ at 9 4 ∷ [])
+    ∷ message 20 2 ungraded (at 5 1 ∷ [])
+    ∷ message 30 3 ungraded (at 9 1 ∷ at 40 1 ∷ [])
     ∷ cancel 40 1
     ∷ cancel 40 1
-    ∷ message 41 1 (at 5 1 ∷ [])
-    ∷ message 42 4 (at 9 1 ∷ [])
+    ∷ message 41 1 ungraded (at 5 1 ∷ [])
+    ∷ message 42 4 ungraded (at 9 1 ∷ [])
     ∷ cancel 39 3
     ∷ cancel 131 3
     ∷ tick 142
@@ -115,18 +117,44 @@ abbrev pub cancelledUnlisted : List (List ℕ)
 cancelledUnlisted =
     map encode
     (registered
-    ∷ message 10 1 (at 5 3 ∷ at 9 4 ∷ [])
-    ∷ message 20 2 (at 5 1 ∷ [])
-    ∷ message 30 3 (at 9 1 ∷ at 40 1 ∷ [])
+    ∷ message 10 1 ungraded (at 5 3 ∷ at 9 4 ∷ [])
+    ∷ message 20 2 ungraded (at 5 1 ∷ [])
+    ∷ message 30 3 ungraded (at 9 1 ∷ at 40 1 ∷ [])
     ∷ cancel 40 2
-    ∷ message 41 2 (at 5 1 ∷ [])
+    ∷ message 41 2 ungraded (at 5 1 ∷ [])
     ∷ cancel 42 3
     ∷ cancel 42 3
-    ∷ message 43 4 (at 9 1 ∷ [])
+    ∷ message 43 4 ungraded (at 9 1 ∷ [])
     ∷ cancel 42 1
     ∷ tick 131
     ∷ cancel 142 2
     ∷ tick 142
+    ∷ [])
+
+-- One term, one weight: every score is the same. The last frame has urgency 3 and a count of 0.
+abbrev pub urgencies : List (List ℕ)
+urgencies =
+    map encode
+    (register 0 0 2 (at 5 1 ∷ [])
+    ∷ message 10 1 (graded vital) (at 5 1 ∷ [])
+    ∷ message 20 2 ungraded (at 5 1 ∷ [])
+    ∷ message 30 3 (graded important) (at 5 1 ∷ [])
+    ∷ message 30 4 (graded routine) (at 5 1 ∷ [])
+    ∷ [])
+    ++ ((0x60 ∷ 0x00 ∷ 0x00 ∷ 0x00 ∷ 0xa0 ∷ 0x00 ∷ 0x01 ∷ 0xc0 ∷ 0x05 ∷ 0x00 ∷ []) ∷ [])
+
+-- Of a full list the vital one leaves with the frame that brings a routine one of the same score: the important one that wasn't listed takes its place.
+-- Then one of a lower score is more urgent than all, and an urgent one is cancelled.
+abbrev pub tieLeftOut : List (List ℕ)
+tieLeftOut =
+    map encode
+    (register 0 0 2 (at 5 1 ∷ [])
+    ∷ message 10 1 (graded vital) (at 5 1 ∷ [])
+    ∷ message 20 2 (graded important) (at 5 1 ∷ [])
+    ∷ message 30 3 (graded important) (at 5 1 ∷ [])
+    ∷ message 40 4 ungraded (at 5 1 ∷ [])
+    ∷ message 50 5 (graded vital) (at 5 1 ∷ at 6 1 ∷ [])
+    ∷ cancel 60 3
     ∷ [])
 
 unfoldable pub table : List Case
@@ -149,7 +177,7 @@ table =
     -- C5
     ∷ spelling registered (0x30 ∷ 0x00 ∷ 0x00 ∷ 0x00 ∷ 0x00 ∷ 0x09 ∷ 0x01 ∷ 0x44 ∷ 0x09 ∷ 0x20 ∷ [])
     -- C6
-    ∷ spelling (message 20 2 (at 5 1 ∷ [])) (0x10 ∷ 0x00 ∷ 0x00 ∷ 0x01 ∷ 0x40 ∷ 0x00 ∷ 0x02 ∷ 0x00 ∷ 0x14 ∷ 0x04 ∷ [])
+    ∷ spelling (message 20 2 ungraded (at 5 1 ∷ [])) (0x10 ∷ 0x00 ∷ 0x00 ∷ 0x01 ∷ 0x40 ∷ 0x00 ∷ 0x02 ∷ 0x00 ∷ 0x14 ∷ 0x04 ∷ [])
     -- C7
     ∷ spelling (unregister 0 0) (0x40 ∷ 0x00 ∷ 0x00 ∷ 0x00 ∷ 0x00 ∷ 0x00 ∷ [])
     ∷ passage 3 100 (encode (unregister 0 0) ∷ []) ((10 ∷ 0 ∷ []) ∷ [])
@@ -177,7 +205,7 @@ table =
     -- T-02
     ∷ spelling (cancel 40 1) (0x50 ∷ 0x00 ∷ 0x00 ∷ 0x02 ∷ 0x80 ∷ 0x00 ∷ 0x01 ∷ [])
     ∷ judging (0x50 ∷ 0x00 ∷ 0x00 ∷ 0x02 ∷ 0x80 ∷ 0x00 ∷ []) 3
-    ∷ judging (0x60 ∷ 0x00 ∷ 0x00 ∷ 0x02 ∷ 0x80 ∷ 0x00 ∷ 0x01 ∷ []) 2
+    ∷ judging (0xf0 ∷ 0x00 ∷ 0x00 ∷ 0x02 ∷ 0x80 ∷ 0x00 ∷ 0x01 ∷ []) 2
     ∷ passage 3 100 cancelled
     ((0 ∷ 0 ∷ [])
     ∷ (0 ∷ 0 ∷ 1 ∷ 2200 ∷ [])
@@ -205,6 +233,30 @@ table =
     ∷ (0 ∷ 0 ∷ 4 ∷ 2000 ∷ 2 ∷ 1000 ∷ [])
     ∷ (13 ∷ 0 ∷ 4 ∷ 2000 ∷ 2 ∷ 1000 ∷ [])
     ∷ (0 ∷ 1 ∷ 4 ∷ 2000 ∷ [])
+    ∷ [])
+    -- T-04: 14 after 4 and before 5
+    ∷ spelling (message 10 1 (graded vital) (at 5 1 ∷ [])) (0x60 ∷ 0x00 ∷ 0x00 ∷ 0x00 ∷ 0xa0 ∷ 0x00 ∷ 0x01 ∷ 0x80 ∷ 0x05 ∷ 0x01 ∷ [])
+    ∷ judging (0x60 ∷ 0x00 ∷ 0x00 ∷ 0x00 ∷ 0xa0 ∷ 0x00 ∷ 0x01 ∷ 0xc0 ∷ 0x05 ∷ []) 3
+    ∷ judging (0x60 ∷ 0x00 ∷ 0x00 ∷ 0x00 ∷ 0xa0 ∷ 0x00 ∷ 0x01 ∷ 0xc4 ∷ 0x05 ∷ 0x00 ∷ 0x01 ∷ 0x40 ∷ 0x01 ∷ []) 4
+    ∷ judging (0x60 ∷ 0x00 ∷ 0x00 ∷ 0x00 ∷ 0xa0 ∷ 0x00 ∷ 0x01 ∷ 0xc4 ∷ 0x05 ∷ 0x00 ∷ 0x01 ∷ 0x40 ∷ 0x00 ∷ []) 14
+    ∷ judging (0x60 ∷ 0x00 ∷ 0x00 ∷ 0x00 ∷ 0xa0 ∷ 0x00 ∷ 0x01 ∷ 0x84 ∷ 0x05 ∷ 0x00 ∷ 0x01 ∷ 0x40 ∷ 0x00 ∷ []) 5
+    ∷ judging (0x60 ∷ 0x00 ∷ 0x00 ∷ 0x00 ∷ 0xa0 ∷ 0x00 ∷ 0x01 ∷ 0x84 ∷ 0x05 ∷ 0x01 ∷ 0x01 ∷ 0x40 ∷ 0x40 ∷ []) 6
+    ∷ passage 3 100 urgencies
+    ((0 ∷ 0 ∷ [])
+    ∷ (0 ∷ 0 ∷ 1 ∷ 1000 ∷ [])
+    ∷ (0 ∷ 0 ∷ 1 ∷ 1000 ∷ 2 ∷ 1000 ∷ [])
+    ∷ (0 ∷ 0 ∷ 1 ∷ 1000 ∷ 3 ∷ 1000 ∷ [])
+    ∷ (0 ∷ 1 ∷ 3 ∷ 1000 ∷ 4 ∷ 1000 ∷ [])
+    ∷ (14 ∷ 0 ∷ 3 ∷ 1000 ∷ 4 ∷ 1000 ∷ [])
+    ∷ [])
+    ∷ passage 3 100 tieLeftOut
+    ((0 ∷ 0 ∷ [])
+    ∷ (0 ∷ 0 ∷ 1 ∷ 1000 ∷ [])
+    ∷ (0 ∷ 0 ∷ 1 ∷ 1000 ∷ 2 ∷ 1000 ∷ [])
+    ∷ (0 ∷ 0 ∷ 1 ∷ 1000 ∷ 3 ∷ 1000 ∷ [])
+    ∷ (0 ∷ 1 ∷ 3 ∷ 1000 ∷ 2 ∷ 1000 ∷ [])
+    ∷ (0 ∷ 1 ∷ 3 ∷ 1000 ∷ 4 ∷ 1000 ∷ [])
+    ∷ (0 ∷ 1 ∷ 4 ∷ 1000 ∷ 5 ∷ 707 ∷ [])
     ∷ [])
     -- "Order for a frame": of all that is wrong the first is told. Each row mends one thing of the row above.
     ∷ judging (0x00 ∷ 0x00 ∷ 0x00 ∷ 0x00 ∷ []) 1

@@ -36,7 +36,7 @@ AllSettled log kept = (n : ℕ) → n < numbers → SettledAt (queryAt log n) (s
 
 -- whether a frame registers or drops the number
 abbrev pub names : Frame → ℕ → Bool
-names (message t s ps) n = false
+names (message t s g ps) n = false
 names (tick t) n = false
 names (register t m k ps) n = eqb m n
 names (unregister t m) n = eqb m n

@@ -1,5 +1,5 @@
 -- The frame: its fields, its bytes, and what any list of bytes is as a frame.
--- Document 01, "The frame". Assumes nothing.
+-- Document 01, "The frame", and document 02, T-02 and T-04. Assumes nothing.
 use Prim.Native.Nat.{ℕ, zero, suc, _+_, _-_, _*_, _/_, _^_, _≤_, _<_}
 use mathlib.Core.Path.{_≡_}
 use mathlib.Core.Bool.{Bool, true, cond, _&&_}
@@ -14,9 +14,37 @@ pub record Pair : Type 0 where
   pub term : ℕ
   pub amount : ℕ
 
--- The kinds with their fields, in the order of the table: four of document 01, whose drop is `unregister`, and T-02's `cancel`.
+-- "graded routine, important or vital"
+pub data Urgency : Type 0 where
+  routine : Urgency
+  important : Urgency
+  vital : Urgency
+
+-- its number in a frame: "0 routine, 1 important, 2 vital"
+abbrev pub level : Urgency → ℕ
+level routine = 0
+level important = 1
+level vital = 2
+
+-- the urgency of a number, which is one of the three
+abbrev pub urgencyOf : ℕ → Urgency
+urgencyOf zero = routine
+urgencyOf (suc zero) = important
+urgencyOf (suc (suc n)) = vital
+
+-- How a message frame says its urgency: not at all, which is kind 1, or in a field, which is kind 6.
+pub data Form : Type 0 where
+  ungraded : Form
+  graded : Urgency → Form
+
+-- "Kind 1 means routine."
+abbrev pub gradeOf : Form → Urgency
+gradeOf ungraded = routine
+gradeOf (graded u) = u
+
+-- The kinds with their fields: four of document 01, whose drop is `unregister`, and T-02's `cancel`. A message has two forms.
 pub data Frame : Type 0 where
-  message : (time serial : ℕ) → List Pair → Frame
+  message : (time serial : ℕ) → Form → List Pair → Frame
   tick : (time : ℕ) → Frame
   register : (time number k : ℕ) → List Pair → Frame
   unregister : (time number : ℕ) → Frame
@@ -27,6 +55,7 @@ pub record Fields : Type 0 where
   pub kind : ℕ
   pub time : ℕ
   pub serial : ℕ
+  pub urgency : ℕ
   pub number : ℕ
   pub k : ℕ
   pub pairs : ℕ
@@ -44,6 +73,9 @@ timeWidth = 32
 abbrev pub serialWidth : ℕ
 serialWidth = 20
 
+abbrev pub urgencyWidth : ℕ
+urgencyWidth = 2
+
 abbrev pub numberWidth : ℕ
 numberWidth = 5
 
@@ -58,14 +90,17 @@ weightWidth = 4
 
 -- ---- the table
 
--- A field before the pairs: which number it holds, and its width. "less one" is written one less than the number, which is then 1 or more.
+-- A field before the pairs: which number it holds, and its width. "less one" is written one less than the number, which is then 1 or more; a grade is
+-- an urgency's number.
 pub data Field : Type 0 where
   plain : (Fields → ℕ) → ℕ → Field
   lessOne : (Fields → ℕ) → ℕ → Field
+  grade : (Fields → ℕ) → ℕ → Field
 
 abbrev pub width : Field → ℕ
 width (plain of w) = w
 width (lessOne of w) = w
+width (grade of w) = w
 
 -- A kind's row: its fields after the kind and before the pairs, and the width of a pair's count or weight, 0 where the kind has no pairs. Where it
 -- has, the last field is their number.
@@ -99,6 +134,13 @@ unregisterRow = record { head = time ∷ plain (λ f. f .number) numberWidth ∷
 abbrev pub cancelRow : Row
 cancelRow = record { head = time ∷ plain (λ f. f .serial) serialWidth ∷ []; amount = 0 }
 
+-- "a message with a 2-bit urgency after the serial"
+abbrev pub gradedRow : Row
+gradedRow = record {
+  head = time ∷ plain (λ f. f .serial) serialWidth ∷ grade (λ f. f .urgency) urgencyWidth ∷ lessOne (λ f. f .pairs) 4 ∷ [];
+  amount = countWidth;
+}
+
 abbrev pub noRow : Row
 noRow = record { head = []; amount = 0 }
 
@@ -110,7 +152,8 @@ rowOf kind =
     (cond (eqb kind 3) registerRow
     (cond (eqb kind 4) unregisterRow
     (cond (eqb kind 5) cancelRow
-    noRow))))
+    (cond (eqb kind 6) gradedRow
+    noRow)))))
 
 -- whether a kind has a row
 abbrev pub known : Row → Bool
@@ -145,7 +188,7 @@ unfoldable pub pairValues : List Pair → List ℕ
 pairValues [] = []
 pairValues (p ∷ ps) = p .term ∷ p .amount ∷ pairValues ps
 
--- "Bits: message 60 + 18m, tick 36, register 48 + 14n, drop 41", cancel 56: fields of these widths, and m pairs
+-- "Bits: message 60 + 18m, tick 36, register 48 + 14n, drop 41", cancel 56, graded message 62 + 18m: fields of these widths, and m pairs
 abbrev pub bitsOf : List ℕ → ℕ → ℕ → ℕ
 bitsOf head w m = total head + m * (termWidth + w)
 
@@ -170,7 +213,8 @@ abbrev pub writtenBy : Row → List ℕ → List Pair → List ℕ
 writtenBy row values pairs = written (widths row) (row .amount) values pairs
 
 unfoldable pub encode : Frame → List ℕ
-encode (message t s ps) = writtenBy messageRow (1 ∷ t ∷ s ∷ (length ps - 1) ∷ []) ps
+encode (message t s ungraded ps) = writtenBy messageRow (1 ∷ t ∷ s ∷ (length ps - 1) ∷ []) ps
+encode (message t s (graded u) ps) = writtenBy gradedRow (6 ∷ t ∷ s ∷ level u ∷ (length ps - 1) ∷ []) ps
 encode (tick t) = writtenBy tickRow (2 ∷ t ∷ []) []
 encode (register t n k ps) = writtenBy registerRow (3 ∷ t ∷ n ∷ (k - 1) ∷ (length ps - 1) ∷ []) ps
 encode (unregister t n) = writtenBy unregisterRow (4 ∷ t ∷ n ∷ []) []
@@ -187,12 +231,13 @@ pub data Shape : Type 0 where
 unfoldable pub frameOf : ℕ → List ℕ → List Pair → Shape
 frameOf kind values pairs =
     let at : ℕ → ℕ = λ i. getD values i 0 in
-    cond (eqb kind 1) (accepted (message (at 0) (at 1) pairs))
+    cond (eqb kind 1) (accepted (message (at 0) (at 1) ungraded pairs))
     (cond (eqb kind 2) (accepted (tick (at 0)))
     (cond (eqb kind 3) (accepted (register (at 0) (at 1) (at 2 + 1) pairs))
     (cond (eqb kind 4) (accepted (unregister (at 0) (at 1)))
     (cond (eqb kind 5) (accepted (cancel (at 0) (at 1)))
-    (refused 2)))))
+    (cond (eqb kind 6) (accepted (message (at 0) (at 1) (graded (urgencyOf (at 2))) pairs))
+    (refused 2))))))
 
 -- the values of the fields after the kind, one after the other
 abbrev pub valuesAt : List ℕ → Row → List ℕ
@@ -221,17 +266,28 @@ rises least (p ∷ ps) = leb least (p .term) && rises (suc (p .term)) ps
 abbrev pub rising : List Pair → Bool
 rising ps = rises 0 ps
 
--- 5, then 6, or what is made of the pairs
-abbrev pub judged : Bool → List Pair → Shape → Shape
-judged sound ps made = cond sound (cond (rising ps) made (refused 6)) (refused 5)
+-- whether a value is a grade where its field is one, and whether all values are
+abbrev pub gradeKnown : Field → ℕ → Bool
+gradeKnown (plain of w) v = true
+gradeKnown (lessOne of w) v = true
+gradeKnown (grade of w) v = leb v (level vital)
 
--- 3, then 4, then the pairs, of a frame with fields of these widths before its m pairs. No message has fewer than 10 bytes and no registration fewer
--- than 8, so one that ends before its number of pairs is 3 whatever is read for that number.
-unfoldable pub check : List ℕ → List ℕ → ℕ → ℕ → (List Pair → Shape) → Shape
-check s head w m make =
+unfoldable pub gradesKnown : List Field → List ℕ → Bool
+gradesKnown [] vs = true
+gradesKnown (x ∷ xs) [] = true
+gradesKnown (x ∷ xs) (v ∷ vs) = gradeKnown x v && gradesKnown xs vs
+
+-- 14, then 5, then 6, or what is made of the pairs
+abbrev pub judged : Bool → Bool → List Pair → Shape → Shape
+judged known sound ps made = cond known (cond sound (cond (rising ps) made (refused 6)) (refused 5)) (refused 14)
+
+-- 3, then 4, then the grade and the pairs, of a frame with fields of these widths before its m pairs. No message has fewer than 10 bytes and no
+-- registration fewer than 8, so one that ends before its number of pairs is 3 whatever is read for that number.
+unfoldable pub check : List ℕ → List ℕ → ℕ → ℕ → Bool → (List Pair → Shape) → Shape
+check s head w m known make =
     cond (eqb (length s) (bytesFor (bitsOf head w m)))
     (cond (eqb (field s (bitsOf head w m) (fillAfter (bitsOf head w m))) 0)
-    (judged (positive (pairsAt s (total head) w m)) (pairsAt s (total head) w m) (make (pairsAt s (total head) w m)))
+    (judged known (positive (pairsAt s (total head) w m)) (pairsAt s (total head) w m) (make (pairsAt s (total head) w m)))
     (refused 4))
     (refused 3)
 
@@ -240,9 +296,9 @@ unfoldable pub shapeOfKind : ℕ → List ℕ → Shape
 shapeOfKind kind s =
     let row = rowOf kind in
     let values = valuesAt s row in
-    cond (known row) (check s (widths row) (row .amount) (pairsBy row values) (frameOf kind values)) (refused 2)
+    cond (known row) (check s (widths row) (row .amount) (pairsBy row values) (gradesKnown (row .head) values) (frameOf kind values)) (refused 2)
 
--- the first of the refusals 1 to 6 that applies, or the frame
+-- the first of the refusals 1 to 4, 14, 5 and 6 that applies, or the frame
 unfoldable pub shape : List ℕ → Shape
 shape s = cond (ltb (length s) 5) (refused 1) (shapeOfKind (field s 0 kindWidth) s)
 
@@ -275,7 +331,7 @@ pub record ValidQuery (t n k : ℕ) (ps : List Pair) : Type 0 where
 
 -- every field is within its range
 abbrev pub Valid : Frame → Type 0
-Valid (message t s ps) = ValidMessage t s ps
+Valid (message t s g ps) = ValidMessage t s ps
 Valid (tick t) = t < 2 ^ timeWidth
 Valid (register t n k ps) = ValidQuery t n k ps
 Valid (unregister t n) = (t < 2 ^ timeWidth) × (n < numbers)

@@ -29,12 +29,16 @@ headerWords = countAt + 1
 abbrev pub slots : ℕ
 slots = mostMessages + 1
 
--- within a slot: the time, then the serial, the number of cells, the cells
+-- within a slot: the time, then the serial, the number of cells with the urgency above it, the cells
 abbrev pub serialOffset : ℕ
 serialOffset = 1
 
 abbrev pub cellCountOffset : ℕ
 cellCountOffset = serialOffset + 1
+
+-- the number of cells is below this, and the urgency is counted in it
+abbrev pub cellLimit : ℕ
+cellLimit = 64
 
 abbrev pub cellsOffset : ℕ
 cellsOffset = cellCountOffset + 1
@@ -50,7 +54,7 @@ cellsAt j = slotAt j + cellsOffset
 
 -- ---- the query records, after the ring
 
--- within a record: k, then the number of terms, the terms with their weights, and what is kept: the list's length, thresholds, serials, scores, flags
+-- within a record: k, then the number of terms, the terms with their weights, and what is kept: the list's length, thresholds, serials, keys, flags
 abbrev pub sizeOffset : ℕ
 sizeOffset = 1
 
@@ -66,11 +70,11 @@ thresholdsOffset = listedOffset + 1
 abbrev pub serialsOffset : ℕ
 serialsOffset = thresholdsOffset + mostTerms
 
-abbrev pub scoresOffset : ℕ
-scoresOffset = serialsOffset + mostListed
+abbrev pub keysOffset : ℕ
+keysOffset = serialsOffset + mostListed
 
 abbrev pub flagsOffset : ℕ
-flagsOffset = scoresOffset + mostListed
+flagsOffset = keysOffset + mostListed
 
 -- a flag for each slot, 32 in a word
 abbrev pub flagWords : ℕ
@@ -97,8 +101,8 @@ thresholdsIn q = recordAt q + thresholdsOffset
 abbrev pub serialsIn : ℕ → ℕ
 serialsIn q = recordAt q + serialsOffset
 
-abbrev pub scoresIn : ℕ → ℕ
-scoresIn q = recordAt q + scoresOffset
+abbrev pub keysIn : ℕ → ℕ
+keysIn q = recordAt q + keysOffset
 
 abbrev pub flagsIn : ℕ → ℕ
 flagsIn q = recordAt q + flagsOffset

@@ -1,12 +1,12 @@
 -- The paper log: what was accepted, the refusal table, and the replies.
--- Document 01, "Replies" and "The paper log", and document 02, T-02. Assumes nothing.
+-- Document 01, "Replies" and "The paper log", and document 02, T-02 and T-04. Assumes nothing.
 use Prim.Native.Nat.{ℕ, _*_, _^_}
 use mathlib.Core.Bool.{Bool, true, false, cond, _&&_, _||_}
 use mathlib.Core.List.{List, [], _∷_, _++_}
 use mathlib.Core.Option.{Option, none, some}
 use lib.ListN.{length, getD, set, replicate}
 use lib.Dec.{eqb, leb, ltb}
-use Rattle.paper.specs.Frame.{Frame, Shape, shape, termWidth, numbers}
+use Rattle.paper.specs.Frame.{Frame, Shape, shape, gradeOf, termWidth, numbers}
 use Rattle.paper.specs.Frame.Frame.{message, tick, register, unregister, cancel}
 use Rattle.paper.specs.Frame.Shape.{refused, accepted}
 use Rattle.paper.specs.Window.{Message, arrival, mostMessages, longestLife, filled, standing, inForce, noting, departing, remaining}
@@ -62,7 +62,7 @@ hasSerial s [] = false
 hasSerial s (m ∷ ms) = eqb (m .serial) s || hasSerial s ms
 
 abbrev pub timeOf : Frame → ℕ
-timeOf (message t s ps) = t
+timeOf (message t s g ps) = t
 timeOf (tick t) = t
 timeOf (register t n k ps) = t
 timeOf (unregister t n) = t
@@ -71,7 +71,7 @@ timeOf (cancel t s) = t
 -- 8: "serial in force at the frame's time, before any message leaves for N"; 13: "serial not in force at the frame's time, checked where 8 stands";
 -- 9: "registering a number in use"; 10: "dropping .. a number not in use"
 abbrev pub judgeKind : Log → Frame → ℕ
-judgeKind log (message t s ps) = cond (hasSerial s (inForceAt log t)) 8 0
+judgeKind log (message t s g ps) = cond (hasSerial s (inForceAt log t)) 8 0
 judgeKind log (tick t) = 0
 judgeKind log (register t n k ps) = cond (inUse (queryAt log n)) 9 0
 judgeKind log (unregister t n) = cond (inUse (queryAt log n)) 0 10
@@ -95,14 +95,14 @@ pub record Call : Type 0 where
 abbrev pub lent : ℕ → ℕ → ℕ → Bool
 lent state output needed = eqb state stateLength && leb needed output
 
--- "Order for a frame: state length (12), then 1 to 10", 13 in the place of 8. `needed` is how many bytes the answer takes where it is written into lent ones, else 0.
+-- "Order for a frame: state length (12), then 1 to 10", 14 between 4 and 5 and 13 in the place of 8. `needed` is how many bytes the answer takes where it is written into lent ones, else 0.
 unfoldable pub judge : ℕ → Log → Call → ℕ
 judge needed log c = cond (lent (c .state) (c .output) needed) (judgeShape log (shape (c .bytes))) 12
 
 -- ---- the log after a frame
 
 abbrev pub arrivals : Frame → List Message
-arrivals (message t s ps) = arrival t s ps ∷ []
+arrivals (message t s g ps) = arrival t s (gradeOf g) ps ∷ []
 arrivals (tick t) = []
 arrivals (register t n k ps) = []
 arrivals (unregister t n) = []
@@ -110,14 +110,14 @@ arrivals (cancel t s) = []
 
 -- whether a frame cancels a message after which `later` more were accepted: the one in force at its time that has its serial
 abbrev pub cancels : Log → Frame → ℕ → Message → Bool
-cancels log (message t s ps) later m = false
+cancels log (message t s g ps) later m = false
 cancels log (tick t) later m = false
 cancels log (register t n k ps) later m = false
 cancels log (unregister t n) later m = false
 cancels log (cancel t s) later m = standing (log .N) (log .T) t later m && eqb (m .serial) s
 
 abbrev pub queriesAfter : Frame → List (Option Query) → List (Option Query)
-queriesAfter (message t s ps) qs = qs
+queriesAfter (message t s g ps) qs = qs
 queriesAfter (tick t) qs = qs
 queriesAfter (register t n k ps) qs = set qs n (some (record { k = k; terms = ps }))
 queriesAfter (unregister t n) qs = set qs n none

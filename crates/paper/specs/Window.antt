@@ -1,11 +1,11 @@
 -- The window: which of the accepted messages are in force, and which leave it.
--- Document 01, "Window, impact, rank", and document 02, T-01 and T-02. Assumes nothing.
+-- Document 01, "Window, impact, rank", and document 02, T-01, T-02 and T-04. Assumes nothing.
 use Prim.Native.Nat.{ℕ, _+_, _-_}
 use mathlib.Core.Bool.{Bool, true, false, cond, not, _&&_}
 use mathlib.Core.List.{List, [], _∷_}
 use lib.ListN.{length}
 use lib.Dec.{ltb}
-use Rattle.paper.specs.Frame.{Pair}
+use Rattle.paper.specs.Frame.{Pair, Urgency}
 
 -- "N is 1 to 256 messages and T 1 to 65,535 seconds"
 abbrev pub mostMessages : ℕ
@@ -14,19 +14,20 @@ mostMessages = 256
 abbrev pub longestLife : ℕ
 longestLife = 65535
 
--- An accepted message: its arrival time, serial and pairs of term and count, and whether it was cancelled since.
+-- An accepted message: its arrival time, serial, urgency and pairs of term and count, and whether it was cancelled since.
 pub record Message : Type 0 where
   pub time : ℕ
   pub serial : ℕ
+  pub urgency : Urgency
   pub pairs : List Pair
   pub cancelled : Bool
 
-abbrev pub arrival : ℕ → ℕ → List Pair → Message
-arrival t s ps = record { time = t; serial = s; pairs = ps; cancelled = false }
+abbrev pub arrival : ℕ → ℕ → Urgency → List Pair → Message
+arrival t s u ps = record { time = t; serial = s; urgency = u; pairs = ps; cancelled = false }
 
 -- "noted as cancelled"
 abbrev pub withdrawn : Message → Message
-withdrawn m = record { time = m .time; serial = m .serial; pairs = m .pairs; cancelled = true }
+withdrawn m = record { time = m .time; serial = m .serial; urgency = m .urgency; pairs = m .pairs; cancelled = true }
 
 -- "Age up to and including T now counts as in force": with any other age (clock less arrival time) an arrival at `time` is past
 abbrev pub past : ℕ → ℕ → ℕ → Bool

@@ -27,6 +27,9 @@ pub const SERIAL: usize = 1;
 
 pub const CELL_COUNT: usize = SERIAL + 1;
 
+// The number of cells is below this, and the urgency is counted in it.
+pub const CELL_LIMIT: u32 = 64;
+
 pub const CELLS: usize = CELL_COUNT + 1;
 
 pub const SLOT: usize = CELLS + MOST_PAIRS;
@@ -45,9 +48,9 @@ pub const THRESHOLDS: usize = LISTED + 1;
 
 pub const SERIALS: usize = THRESHOLDS + MOST_TERMS;
 
-pub const SCORES: usize = SERIALS + MOST_LISTED;
+pub const KEYS: usize = SERIALS + MOST_LISTED;
 
-pub const FLAGS: usize = SCORES + MOST_LISTED;
+pub const FLAGS: usize = KEYS + MOST_LISTED;
 
 pub const FLAG_WORDS: usize = (SLOTS + 31) / 32;
 

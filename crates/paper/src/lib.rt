@@ -15,6 +15,9 @@ pub const SERIALS: u32 = 1048576;
 
 pub const NUMBERS: usize = 32;
 
+// An urgency has two bits: what memory says of one is brought below this.
+pub const URGENCY_LIMIT: u32 = 4;
+
 // The most messages in force, and the greatest age in seconds that a start can allow them.
 pub const MOST_MESSAGES: u32 = 256;
 

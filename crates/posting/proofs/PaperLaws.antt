@@ -17,9 +17,8 @@ use Rattle.paper.proofs.SortLaws.{inserts-map, length-sort}
 use Rattle.paper.proofs.WindowLaws.{active}
 use Rattle.impact.specs.Cell.{lookup}
 use Rattle.impact.proofs.CellLaws.{lookup-cells}
-use Rattle.rank.specs.Listing.{aheadLine}
 use Rattle.window.specs.Slot.{Slot, stored, silenced, held}
-use Rattle.posting.specs.Lines.{lineBytes}
+use Rattle.posting.specs.Lines.{aheadLine, lineBytes}
 use Rattle.posting.specs.Posting.{having, posting, Counted, Filled}
 
 module _ (t : ℕ) where

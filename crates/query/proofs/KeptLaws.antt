@@ -11,10 +11,10 @@ use Rattle.paper.specs.Window.{Message}
 use Rattle.paper.specs.Layout.{slots, recordAt, thresholdsIn}
 use Rattle.memory.specs.Keeps.{Keeps}
 use Rattle.rank.specs.declared.Ranked.{Ranked}
-use Rattle.rank.specs.Listing.{linesOf}
+use Rattle.rank.specs.Listing.{keyedOf}
 use Rattle.window.specs.Slot.{Slot, ring}
 use Rattle.window.proofs.SlotLaws.{live-slots, window-kept}
-use Rattle.query.specs.Record.{thresholds, flags, list}
+use Rattle.query.specs.Record.{thresholds, flags, keys}
 use Rattle.query.specs.Post.{StoredKept, Over}
 
 -- the slots lie below the records
@@ -41,6 +41,6 @@ module _ {q : ℕ} {hs : List ℕ} {l : Ranked} {fs w w′ : List ℕ} (kept : S
   unfolding flags
   flags-stored = kept .flags
 
-  pub list-stored : list w′ q ≡ linesOf l
-  unfolding list
-  list-stored = rw (kept .count, kept .serials, kept .scores)
+  pub keys-stored : keys w′ q ≡ keyedOf l
+  unfolding keys
+  keys-stored = rw (kept .count, kept .serials, kept .keys)

@@ -11,7 +11,7 @@ use borrow.Author.Tests.{eq-eqb, ne-eqb, le-leb, lt-leb, eqb-true, leb-true, ltb
 use Rattle.paper.specs.Impact.{top}
 use Rattle.paper.proofs.Tests.{and-true, or-true}
 use Rattle.rank.specs.declared.Ranked.{Ranked}
-use Rattle.rank.specs.Listing.{linesOf, lastOf}
+use Rattle.rank.specs.Listing.{keyedOf, lastScoreOf}
 use Rattle.rank.specs.Weights.{Below, weightLimit, valueLimit, Slack, Raised}
 use Rattle.candidates.specs.declared.Query.{Query}
 use Rattle.candidates.proofs.FlagLaws.{zero-at}
@@ -38,10 +38,10 @@ module _ (r : Query) (hs : List ℕ) where
       }
 
   module _ (l : Ranked) where
-    pub lifted-none : (l .count ≡ r .k → sumOf r hs < lastOf (linesOf l) → ⊥) → Lifted r hs l (replicate 8 0)
+    pub lifted-none : (l .count ≡ r .k → sumOf r hs < lastScoreOf (keyedOf l) → ⊥) → Lifted r hs l (replicate 8 0)
     lifted-none full = record { room = λ m. absurd (full (m .0) (m .1)); none = λ z i. zero-at 8 i }
 
-    pub lifted-room : (hs′ : List ℕ) → Room r hs l → Raised (r .n) (r .weights) hs (lastOf (linesOf l)) hs′ → Lifted r hs l hs′
+    pub lifted-room : (hs′ : List ℕ) → Room r hs l → Raised (r .n) (r .weights) hs (lastScoreOf (keyedOf l)) hs′ → Lifted r hs l hs′
     lifted-room hs′ m f = record { room = λ z. f; none = λ z. absurd (z m) }
 
     pub secure-zero : sumOf r hs ≡ 0 → true ≡ secure r hs l
@@ -52,14 +52,14 @@ module _ (r : Query) (hs : List ℕ) where
     unfolding secure
     secure-short p h = rw (ne-eqb (sumOf r hs) 0 (λ e. omega arith), lt-leb (r .k) (l .count) h)
 
-    pub secure-full : 0 < sumOf r hs → r .k ≤ l .count → ltb (sumOf r hs) (lastOf (linesOf l)) ≡ secure r hs l
+    pub secure-full : 0 < sumOf r hs → r .k ≤ l .count → ltb (sumOf r hs) (lastScoreOf (keyedOf l)) ≡ secure r hs l
     unfolding secure
     secure-full p h = rw (ne-eqb (sumOf r hs) 0 (λ e. omega arith), le-leb (r .k) (l .count) h)
 
-    pub secure-safe : secure r hs l ≡ true → (sumOf r hs ≡ 0) ⊎ ((r .k ≤ l .count) × (sumOf r hs < lastOf (linesOf l)))
+    pub secure-safe : secure r hs l ≡ true → (sumOf r hs ≡ 0) ⊎ ((r .k ≤ l .count) × (sumOf r hs < lastScoreOf (keyedOf l)))
     unfolding secure
     secure-safe e =
         ⊎-elim
         (λ z. inl (eqb-true (sumOf r hs) 0 z))
-        (λ b. let p = and-true (leb (r .k) (l .count)) (ltb (sumOf r hs) (lastOf (linesOf l))) b in inr (leb-true _ _ (p .0), ltb-true _ _ (p .1)))
-        (or-true (eqb (sumOf r hs) 0) (leb (r .k) (l .count) && ltb (sumOf r hs) (lastOf (linesOf l))) e)
+        (λ b. let p = and-true (leb (r .k) (l .count)) (ltb (sumOf r hs) (lastScoreOf (keyedOf l))) b in inr (leb-true _ _ (p .0), ltb-true _ _ (p .1)))
+        (or-true (eqb (sumOf r hs) 0) (leb (r .k) (l .count) && ltb (sumOf r hs) (lastScoreOf (keyedOf l))) e)

@@ -21,7 +21,8 @@ use Rattle.paper.proofs.Tests as Tests
 use Rattle.paper.proofs.Tests.{by-bool, and-true}
 use Rattle.paper.proofs.LogLaws.{messages-append, messages-split}
 use Rattle.paper.proofs.SortLaws.{in-append, in-left, in-right, in-stay, in-split}
-use Rattle.paper.proofs.ThresholdLaws.{skip, score-agree, exceeds-agree}
+use Rattle.paper.proofs.ThresholdLaws.{ranking-same, same-candidates, skip, score-agree, exceeds-agree}
+use Rattle.rank.specs.Listing.{keyed}
 use Rattle.window.specs.Slot.{Slot, slot, stored, ring, live}
 use Rattle.window.specs.Table.{termLimit, greatest, entryOf}
 use Rattle.window.proofs.SlotLaws.{live-in, in-live}
@@ -248,11 +249,15 @@ module _ {w₀ w : List ℕ} {o n : ℕ} {m : Move} {aa ga sa ca : List Message}
         settled =
             subst (λ (cs : List ℕ). Settled query (sa ++ ca) (record { thresholds = old; candidates = cs; list = list w q }))
             (skipped .above ∙ sym (candidates-are q its old (change .then-below) over-after same-flags)) skipped;
+        ranked =
+            held .ranked
+            ∙ ap keyed
+            (ranking-same query aa (sa ++ ca) (heldOf w₀ w q o n (length its)) (held .settled) (same-candidates its old ca (change .split) unreached));
         flagged = same-flags;
         no-threshold = held .no-threshold;
         listed-most = held .listed-most;
         no-serial = held .no-serial;
-        no-score = held .no-score;
+        no-key = held .no-key;
       }
 
     flags-after : {comes : Bool} {fs : List ℕ} → comes ≡ reached its old ca → MovedFlags w q m comes fs → Exact w (m .first) (m .count) fs its old

@@ -1,22 +1,22 @@
 -- A query's list, read off its record and changed in place. Assumes nothing.
-use Prim.Native.Nat.{ℕ, _+_, _-_, _≤_, _<_}
+use Prim.Native.Nat.{ℕ, _+_, _-_, _/_, _≤_, _<_}
 use native.Mathlib.Omega.{arith}
-use mathlib.Core.Path.{_≡_, refl, sym, ap, _∙_}
+use mathlib.Core.Path.{_≡_, refl, sym, ap, ap₂, _∙_}
 use mathlib.Core.List.{List, [], _∷_, _++_, map}
 use lib.ListN.{length, getD, take, drop, length-take, length-drop}
 use lib.Seq.{getD-take, getD-drop}
 use borrow.Author.Tests.{eq-eqb, ne-eqb, lt-leb, le-leb, le-ltb, lt-ltb}
 use Rattle.paper.specs.Frame.{numbers, mostListed}
-use Rattle.paper.specs.Rank.{Line}
-use Rattle.paper.specs.Layout.{slots, stateWords, listedIn, serialsIn, scoresIn, recordAt}
+use Rattle.paper.specs.Rank.{keyFactor}
+use Rattle.paper.specs.Layout.{slots, stateWords, listedIn, serialsIn, keysIn, recordAt}
 use Rattle.rank.specs.declared.Ranked.{Ranked}
-use Rattle.rank.specs.Listing.{listed, linesOf, lastOf, Tidy, Kept, Removed, grown, without, withouts}
+use Rattle.rank.specs.Listing.{Keyed, keyedWith, listed, keyedOf, lastOf, Tidy, Kept, Removed, grown, without, withouts}
 use Rattle.rank.proofs.LineLaws.{length-listed, last-listed}
 use Rattle.window.specs.Slot.{slot, next, ring}
 use Rattle.window.proofs.RingLaws.{ring-step, ring-none}
 use Rattle.query.specs.declared.Move.{Move}
-use Rattle.query.specs.Record.{list}
-use Rattle.query.specs.Post.{Clamped, Least, WithoutGone, WithNewest}
+use Rattle.query.specs.Record.{keys}
+use Rattle.query.specs.Post.{Clamped, Least, WithoutGone, keyIn, WithNewest}
 
 -- ---- the list in the record
 
@@ -28,39 +28,39 @@ module _ (w : List ℕ) (q : ℕ) {n : ℕ} (long : length w ≡ stateWords) (nu
     sixteen : (a : ℕ) → a + mostListed ≤ stateWords → length (take mostListed (drop a w)) ≡ mostListed
     sixteen a h = simp (length-take, length-drop) (omega arith)
 
-    length-is : length (list w q) ≡ n
-    unfolding list
+    length-is : length (keys w q) ≡ n
+    unfolding keys
     length-is =
-        length-listed (getD w (listedIn q) 0) (take mostListed (drop (serialsIn q) w)) (take mostListed (drop (scoresIn q) w))
-        (omega (arith, sixteen (serialsIn q) (omega arith))) (omega (arith, sixteen (scoresIn q) (omega arith)))
+        length-listed (getD w (listedIn q) 0) (take mostListed (drop (serialsIn q) w)) (take mostListed (drop (keysIn q) w))
+        (omega (arith, sixteen (serialsIn q) (omega arith))) (omega (arith, sixteen (keysIn q) (omega arith)))
         ∙ sym count-is
 
-    last-is : 0 < n → lastOf (list w q) ≡ getD w (scoresIn q + (n - 1)) 0
-    unfolding list
+    last-is : 0 < n → lastOf (keys w q) ≡ getD w (keysIn q + (n - 1)) 0
+    unfolding keys
     last-is some =
         let c = count-is in
         ap (λ (k : ℕ). lastOf (listedOf k)) (sym c)
-        ∙ sym (last-listed n (take mostListed (drop (serialsIn q) w)) (take mostListed (drop (scoresIn q) w)) some
-        (omega (arith, clamped .at-most, sixteen (serialsIn q) (omega arith))) (omega (arith, clamped .at-most, sixteen (scoresIn q) (omega arith))))
-        ∙ getD-take mostListed (drop (scoresIn q) w) (n - 1) 0 (omega (arith, clamped .at-most))
-        ∙ getD-drop (scoresIn q) w (n - 1) 0
+        ∙ sym (last-listed n (take mostListed (drop (serialsIn q) w)) (take mostListed (drop (keysIn q) w)) some
+        (omega (arith, clamped .at-most, sixteen (serialsIn q) (omega arith))) (omega (arith, clamped .at-most, sixteen (keysIn q) (omega arith))))
+        ∙ getD-take mostListed (drop (keysIn q) w) (n - 1) 0 (omega (arith, clamped .at-most))
+        ∙ getD-drop (keysIn q) w (n - 1) 0
       where
-        listedOf : ℕ → List Line
-        listedOf k = listed k (take mostListed (drop (serialsIn q) w)) (take mostListed (drop (scoresIn q) w))
+        listedOf : ℕ → List Keyed
+        listedOf k = listed keyedWith k (take mostListed (drop (serialsIn q) w)) (take mostListed (drop (keysIn q) w))
 
   -- one that isn't full, and one that is
-  pub least-short : (n ≡ getD w (recordAt q) 0 → 0 < n → ⊥) → Least w q 1
+  pub least-short : (n ≡ getD w (recordAt q) 0 → 0 < n → ⊥) → Least w q keyFactor
   least-short short = record {
     is = λ query terms says most.
         let e = says .k in
         let p = terms .k-least in
-        rw (ne-eqb (length (list w q)) (query .k) (λ z. let l = length-is most in short (omega arith) (omega arith)));
+        rw (ne-eqb (length (keys w q)) (query .k) (λ z. let l = length-is most in short (omega arith) (omega arith)));
   }
 
-  pub least-full : n ≡ getD w (recordAt q) 0 → 0 < n → {r : ℕ} → r ≡ getD w (scoresIn q + (n - 1)) 0 → Least w q r
+  pub least-full : n ≡ getD w (recordAt q) 0 → 0 < n → {r : ℕ} → r ≡ getD w (keysIn q + (n - 1)) 0 → Least w q r
   least-full full some read = record {
     is = λ query terms says most.
-        rw (eq-eqb (length (list w q)) (query .k) (let l = length-is most in let e = says .k in omega arith)) (read ∙ sym (last-is most some));
+        rw (eq-eqb (length (keys w q)) (query .k) (let l = length-is most in let e = says .k in omega arith)) (read ∙ sym (last-is most some));
   }
 
 -- ---- what left goes out
@@ -69,7 +69,7 @@ module _ (w : List ℕ) (q : ℕ) {n : ℕ} (long : length w ≡ stateWords) (nu
 abbrev serialsOf : List ℕ → ℕ → ℕ → List ℕ
 serialsOf w o n = map (λ j. slot w j .serial) (ring o n)
 
-withouts-append : (xs ys : List ℕ) (l : List Line) → withouts (xs ++ ys) l ≡ withouts ys (withouts xs l)
+withouts-append : (xs ys : List ℕ) (l : List Keyed) → withouts (xs ++ ys) l ≡ withouts ys (withouts xs l)
 unfolding withouts
 withouts-append [] ys l = refl
 withouts-append (x ∷ xs) ys l = withouts-append xs ys (without x l)
@@ -78,7 +78,7 @@ withouts-append (x ∷ xs) ys l = withouts-append xs ys (without x l)
 pub record Leaving (w : List ℕ) (o d : ℕ) (l : Ranked) (j n : ℕ) (r : Ranked) : Type 0 where
   pub within : r .count ≤ l .count
   pub tidy : Tidy l → Tidy r
-  left : withouts (serialsOf w j n) (linesOf r) ≡ withouts (serialsOf w o d) (linesOf l)
+  left : withouts (serialsOf w j n) (keyedOf r) ≡ withouts (serialsOf w o d) (keyedOf l)
 
 pub leaving-all : {w : List ℕ} {o d : ℕ} {l : Ranked} → Leaving w o d l o d l
 leaving-all = record { within = omega arith; tidy = λ t. t; left = refl }
@@ -90,42 +90,41 @@ leaving-next {w} {j = j} {n} {r} p some e out = record {
   within = let a = p .within in let b = out .within in omega arith;
   tidy = λ t. out .tidy;
   left =
-      ap (withouts (serialsOf w (next j) (n - 1))) (out .list ∙ ap (λ (s : ℕ). without s (linesOf r)) e)
-      ∙ sym (ap (λ (js : List ℕ). withouts (map (λ j. slot w j .serial) js) (linesOf r)) (ring-step j n some))
+      ap (withouts (serialsOf w (next j) (n - 1))) (out .list ∙ ap (λ (s : ℕ). without s (keyedOf r)) e)
+      ∙ sym (ap (λ (js : List ℕ). withouts (map (λ j. slot w j .serial) js) (keyedOf r)) (ring-step j n some))
       ∙ p .left;
 }
 
 -- all that departed are out: there is a cancelled message, or none
-module _ {w : List ℕ} (m : Move) {l : Ranked} {j n : ℕ} {r : Ranked} (p : Leaving w (m .gone) (m .departed) l j n r) (none : n ≤ 0) {went least : ℕ}
-    (high : least ≤ went) where
-  departed-out : linesOf r ≡ withouts (serialsOf w (m .gone) (m .departed)) (linesOf l)
+module _ {w : List ℕ} (m : Move) {l : Ranked} {j n : ℕ} {r : Ranked} (p : Leaving w (m .gone) (m .departed) l j n r) (none : n ≤ 0) where
+  departed-out : keyedOf r ≡ withouts (serialsOf w (m .gone) (m .departed)) (keyedOf l)
   unfolding withouts
-  departed-out = sym (ap (λ (js : List ℕ). withouts (map (λ j. slot w j .serial) js) (linesOf r)) (ring-none j n none)) ∙ p .left
+  departed-out = sym (ap (λ (js : List ℕ). withouts (map (λ j. slot w j .serial) js) (keyedOf r)) (ring-none j n none)) ∙ p .left
 
-  pub cancelled-leaves : {r′ : Ranked} → m .cancelled < slots → Removed (m .serial) r r′ → WithoutGone w m went least l r′
+  pub cancelled-leaves : {went least : ℕ} → least / keyFactor ≤ went → {r′ : Ranked} → m .cancelled < slots → Removed (m .serial) r r′ → WithoutGone w m went least l r′
   unfolding withouts
-  cancelled-leaves h out = record {
+  cancelled-leaves {went} {least} high h out = record {
     within = let a = p .within in let b = out .within in omega arith;
     tidy = λ t. out .tidy;
     list-is =
-        rw (le-leb least went high, lt-ltb (m .cancelled) slots h)
+        rw (le-leb (least / keyFactor) went high, lt-ltb (m .cancelled) slots h)
         (out .list
         ∙ ap (without (m .serial)) departed-out
-        ∙ sym (withouts-append (serialsOf w (m .gone) (m .departed)) (m .serial ∷ []) (linesOf l)));
+        ∙ sym (withouts-append (serialsOf w (m .gone) (m .departed)) (m .serial ∷ []) (keyedOf l)));
   }
 
-  pub none-cancelled : slots ≤ m .cancelled → WithoutGone w m went least l r
+  pub none-cancelled : {went least : ℕ} → least / keyFactor ≤ went → slots ≤ m .cancelled → WithoutGone w m went least l r
   unfolding withouts
-  none-cancelled h = record {
+  none-cancelled {went} {least} high h = record {
     within = p .within;
     tidy = p .tidy;
     list-is =
-        rw (le-leb least went high, le-ltb (m .cancelled) slots h)
-        (departed-out ∙ sym (withouts-append (serialsOf w (m .gone) (m .departed)) [] (linesOf l)));
+        rw (le-leb (least / keyFactor) went high, le-ltb (m .cancelled) slots h)
+        (departed-out ∙ sym (withouts-append (serialsOf w (m .gone) (m .departed)) [] (keyedOf l)));
   }
 
-pub none-leave : {w : List ℕ} {m : Move} {went least : ℕ} {l : Ranked} → went < least → WithoutGone w m went least l l
-none-leave {went = went} {least} h = record { within = omega arith; tidy = λ t. t; list-is = rw (lt-leb least went h) }
+pub none-leave : {w : List ℕ} {m : Move} {went least : ℕ} {l : Ranked} → went < least / keyFactor → WithoutGone w m went least l l
+none-leave {went = went} {least} h = record { within = omega arith; tidy = λ t. t; list-is = rw (lt-leb (least / keyFactor) went h) }
 
 -- ---- what came goes in
 
@@ -133,18 +132,18 @@ module _ {w : List ℕ} {newest came k least : ℕ} {l : Ranked} (most : l .coun
   pub none-comes : slots ≤ newest → WithNewest w newest came k least l l
   none-comes h = record { within = most; tidy = λ t. t; list-is = λ _. rw (le-ltb newest slots h) }
 
-  pub too-low : newest < slots → came < least → WithNewest w newest came k least l l
-  too-low h c = record { within = most; tidy = λ t. t; list-is = λ _. rw (lt-ltb newest slots h, lt-leb least came c) }
+  pub too-low : newest < slots → {key : ℕ} → key ≡ keyIn w newest came → key < least → WithNewest w newest came k least l l
+  too-low h e c = record { within = most; tidy = λ t. t; list-is = λ _. rw (lt-ltb newest slots h, lt-leb least (keyIn w newest came) (omega arith)) }
 
   pub too-many : k < l .count → WithNewest w newest came k least l l
   too-many h = record { within = most; tidy = λ t. t; list-is = λ few. absurd (omega arith) }
 
-  pub one-comes : {serial : ℕ} {r : Ranked} → newest < slots → least ≤ came → k ≤ mostListed → serial ≡ slot w newest .serial → Kept k serial came l r
-      → WithNewest w newest came k least l r
-  one-comes h c top e kept = record {
+  pub one-comes : {serial key : ℕ} {r : Ranked} → newest < slots → key ≡ keyIn w newest came → least ≤ key → k ≤ mostListed
+      → serial ≡ slot w newest .serial → Kept k serial key l r → WithNewest w newest came k least l r
+  one-comes h f c top e kept = record {
     within = let a = kept .within in omega arith;
     tidy = kept .tidy;
     list-is = λ _.
-        rw (lt-ltb newest slots h, le-leb least came c)
-        (kept .list ∙ ap (λ (s : ℕ). grown k (record { serial = s; score = came }) (linesOf l)) e);
+        rw (lt-ltb newest slots h, le-leb least (keyIn w newest came) (omega arith))
+        (kept .list ∙ ap₂ (λ (s v : ℕ). grown k (keyedWith s v) (keyedOf l)) e f);
   }

@@ -17,7 +17,7 @@ use Rattle.paper.specs.Rank.{Query}
 use Rattle.paper.specs.Sort.{select}
 use Rattle.paper.specs.Sound.{Terms}
 use Rattle.paper.specs.Window.{Message}
-use Rattle.paper.specs.Layout.{slots, recordAt, recordWords, sizeIn, pairsIn, listedIn, thresholdsIn, serialsIn, scoresIn, flagsIn, flagWords}
+use Rattle.paper.specs.Layout.{slots, recordAt, recordWords, sizeIn, pairsIn, listedIn, thresholdsIn, serialsIn, keysIn, flagsIn, flagWords}
 use Rattle.paper.proofs.SortLaws.{select-in}
 use Rattle.memory.specs.Keeps.{Keeps}
 use Rattle.memory.proofs.KeepsLaws.{keeps-at, same-part}
@@ -25,7 +25,7 @@ use Rattle.window.specs.Slot.{slot, ring}
 use Rattle.candidates.proofs.MatchLaws.{slot-in, in-ring}
 use Rattle.candidates.specs.Match.{exceedsCells}
 use Rattle.candidates.specs.Flags.{flagOf, inRing}
-use Rattle.query.specs.Record.{thresholds, flags, list, candidates, Says, Held, HeldAt, HoldsAt, SameRecord}
+use Rattle.query.specs.Record.{thresholds, flags, keys, candidates, Says, Held, HeldAt, HoldsAt, SameRecord}
 
 -- functions that agree on a list's elements
 pub map-agree : {A B : Type 0} (f g : A → B) (l : List A) → ((x : A) → In x l → f x ≡ g x) → map f l ≡ map g l
@@ -70,11 +70,12 @@ module _ (w w′ : List ℕ) (o n : ℕ) (first : o < slots) (same : (j : ℕ) �
   seen-same {v} {q} {ms} {query} h = record {
     says = h .says;
     settled = rw (candidates-seen v q) (h .settled);
+    ranked = h .ranked;
     flagged = λ j. h .flagged j ∙ cells-same w w′ (query .terms) (thresholds v q (length (query .terms))) o n j (λ e. same j (slot-in o n j e) e);
     no-threshold = h .no-threshold;
     listed-most = h .listed-most;
     no-serial = h .no-serial;
-    no-score = h .no-score;
+    no-key = h .no-key;
   }
 
 -- a whole record, word for word the same
@@ -101,12 +102,12 @@ module _ (w w′ : List ℕ) (q : ℕ) (long : length w′ ≡ length w) (record
   serials-same : take mostListed (drop (serialsIn q) w′) ≡ take mostListed (drop (serialsIn q) w)
   serials-same = part-same (serialsIn q) mostListed (omega arith) (omega arith)
 
-  scores-same : take mostListed (drop (scoresIn q) w′) ≡ take mostListed (drop (scoresIn q) w)
-  scores-same = part-same (scoresIn q) mostListed (omega arith) (omega arith)
+  keys-part-same : take mostListed (drop (keysIn q) w′) ≡ take mostListed (drop (keysIn q) w)
+  keys-part-same = part-same (keysIn q) mostListed (omega arith) (omega arith)
 
-  pub list-same : list w′ q ≡ list w q
-  unfolding list
-  list-same = rw (size-same, serials-same, scores-same)
+  pub keys-same : keys w′ q ≡ keys w q
+  unfolding keys
+  keys-same = rw (size-same, serials-same, keys-part-same)
 
   candidates-same : (w₀ : List ℕ) (o n : ℕ) → candidates w₀ w′ q o n ≡ candidates w₀ w q o n
   unfolding candidates
@@ -118,12 +119,13 @@ module _ (w w′ : List ℕ) (q : ℕ) (long : length w′ ≡ length w) (record
       let hs = thresholds-same (length (query .terms)) (omega arith) in
       record {
         says = says-by w w′ (λ i l k. word-same i l (omega arith)) (h .says);
-        settled = rw (hs, candidates-same w₀ o n, list-same) (h .settled);
+        settled = rw (hs, candidates-same w₀ o n, keys-same) (h .settled);
+        ranked = keys-same ∙ h .ranked;
         flagged = λ j. rw (flags-same, hs) (h .flagged j);
         no-threshold = λ i l k. word-same (thresholdsIn q + i) (omega arith) (omega arith) ∙ h .no-threshold i l k;
         listed-most = rw size-same (h .listed-most);
         no-serial = rw (size-same, serials-same) (h .no-serial);
-        no-score = rw (size-same, scores-same) (h .no-score);
+        no-key = rw (size-same, keys-part-same) (h .no-key);
       }
 
   pub held-at-same : (w₀ : List ℕ) (o n : ℕ) (ms : Query → List Message) (x : Option Query) → ((query : Query) → x ≡ some query → Terms query)

@@ -15,7 +15,7 @@ use Rattle.paper.specs.Frame.{Pair, mostListed}
 use Rattle.paper.specs.Impact.{top, score}
 use Rattle.paper.specs.Order.{In, entryAt}
 use Rattle.paper.specs.Rank as Rank
-use Rattle.paper.specs.Rank.{Entry, lines, ranking}
+use Rattle.paper.specs.Rank.{Entry, ranking}
 use Rattle.paper.specs.Sort.{select}
 use Rattle.paper.specs.Window.{Message}
 use Rattle.paper.specs.Write.{side-by-side}
@@ -29,10 +29,10 @@ use Rattle.paper.proofs.ThresholdLaws.{Safe, candidates-enough}
 use Rattle.wire.specs.Bits.{odd, bits}
 use Rattle.impact.specs.Cell.{lookup}
 use Rattle.rank.specs.declared.Ranked.{Ranked}
-use Rattle.rank.specs.Listing.{linesOf, lastOf}
+use Rattle.rank.specs.Listing.{keyedEntry, keyed, keyedOf, shown, lastScoreOf}
 use Rattle.rank.specs.Weights.{weightedSum, Raised}
 use Rattle.rank.proofs.LineLaws.{length-listed}
-use Rattle.rank.proofs.PaperLaws.{lines-last, threshold-sum, raised-tight}
+use Rattle.rank.proofs.PaperLaws.{shown-keyed, keyed-last-score, threshold-sum, raised-tight}
 use Rattle.window.specs.Slot.{slot, stored, ring, live}
 use Rattle.window.proofs.SlotLaws.{slot-kept, live-in}
 use Rattle.candidates.specs.declared.Query.{Query}
@@ -42,12 +42,12 @@ use Rattle.candidates.specs.Post.{termsOf, lineIn, grows}
 use Rattle.candidates.specs.Rows.{Having, Rows, RankedRows, SiftedRows}
 use Rattle.candidates.proofs.MatchLaws.{slot-in, in-ring, ring-in, ranking-stored, taken-live}
 use Rattle.candidates.proofs.RowLaws.{having-live, having-grows, having-exceeds}
-use Rattle.query.specs.Record.{thresholds, flags, keptOf, Says, Holds}
+use Rattle.query.specs.Record.{thresholds, flags, keys, keptOf, Says, Holds}
 use Rattle.query.specs.Post.{InRange, Is, sumOf, Lifted, secure, sameFrom, StoredKept, Over, Shown, Ready, Exact}
 use Rattle.query.proofs.ChosenLaws.{messages-select, chosen, candidates-are}
 use Rattle.query.proofs.LiftLaws.{secure-safe}
 use Rattle.query.proofs.RecordLaws.{cells-same, says-same}
-use Rattle.query.proofs.KeptLaws.{over-kept, thresholds-stored, threshold-stored, flags-stored, list-stored}
+use Rattle.query.proofs.KeptLaws.{over-kept, thresholds-stored, threshold-stored, flags-stored, keys-stored}
 
 -- ---- lower thresholds
 
@@ -118,17 +118,17 @@ module _ {r : Query} {query : Rank.Query} (is : Is r query) where
 pub record Sixteen (l : Ranked) : Type 0 where
   pub most : l .count ≤ mostListed
   pub serials : length (l .serials) ≡ mostListed
-  pub scores : length (l .scores) ≡ mostListed
+  pub keys : length (l .keys) ≡ mostListed
 
-module _ {l : Ranked} (es : List Entry) (long : Sixteen l) (shows : linesOf l ≡ lines es) where
+module _ {l : Ranked} (es : List Entry) (long : Sixteen l) (shows : keyedOf l ≡ keyed es) where
   pub count-is : l .count ≡ length es
   count-is =
-      sym (length-listed (l .count) (l .serials) (l .scores) (omega (arith, long .most, long .serials)) (omega (arith, long .most, long .scores)))
+      sym (length-listed (l .count) (l .serials) (l .keys) (omega (arith, long .most, long .serials)) (omega (arith, long .most, long .keys)))
       ∙ ap length shows
-      ∙ length-map es Rank.line
+      ∙ length-map es keyedEntry
 
-  pub last-is : lastOf (linesOf l) ≡ lastScore es
-  last-is = ap lastOf shows ∙ lines-last es
+  pub last-is : lastScoreOf (keyedOf l) ≡ lastScore es
+  last-is = ap lastScoreOf shows ∙ keyed-last-score es
 
 -- ---- the thresholds that settling ends with
 
@@ -150,13 +150,13 @@ module _ {w : List ℕ} {q o n : ℕ} {ms : List Message} {query : Rank.Query} {
       full : length (ranking query ms) ≡ query .k → Next query ms (r .n) hs hs′
       full e =
           let last = last-is (ranking query ms) long (ready .ranked) in
-          let below : sumOf r hs < lastOf (linesOf l) = omega (arith, ready .safe e, sum-is (ready .is) hs) in
+          let below : sumOf r hs < lastScoreOf (keyedOf l) = omega (arith, ready .safe e, sum-is (ready .is) hs) in
           let f = lifted .room (counted ∙ e ∙ sym (ready .is .k), below) in
           record {
             higher = f .higher;
             unused = λ i h. f .others i h ∙ ready .unused i h;
             in-scale = f .in-scale;
-            full = λ z. subst (Tight (query .terms) (take (r .n) hs′)) last (raised-is (ready .is) (lastOf (linesOf l)) hs hs′ f);
+            full = λ z. subst (Tight (query .terms) (take (r .n) hs′)) last (raised-is (ready .is) (lastScoreOf (keyedOf l)) hs hs′ f);
             short = λ z. absurd (omega arith);
           }
 
@@ -225,11 +225,14 @@ module _ {w : List ℕ} {q o n : ℕ} {fs : List ℕ} {r : Query} {hs hs′ : Li
         ∙ exact j
         ∙ rw first-ones (cells-same w w′ (query .terms) (take (r .n) hs′) o n j (λ i. let h = slot-in o n j i in slot-kept (kept .keeps) j (inl (omega arith))))
 
+    ranked : keys w′ q ≡ keyed (ranking query ms)
+    ranked = keys-stored kept ∙ ready .ranked
+
     settled : Settled query ms (keptOf w′ q o n (length (query .terms)))
     settled = record {
       one-each = ap length first-ones ∙ length-take-le (r .n) hs′ (omega (arith, most)) ∙ ready .is .n;
       in-scale = λ i. rw first-ones (⊎-elim (λ a. omega (arith, settled-by .in-scale i (a .1))) (λ a. omega arith) (cut (r .n) hs′ i));
-      ranked = list-stored kept ∙ ready .ranked;
+      ranked = ap (map shown) ranked ∙ shown-keyed (ranking query ms);
       above = candidates-are q (query .terms) (thresholds w′ q (length (query .terms))) ho over′ flagged;
       full = λ e. rw first-ones (settled-by .full e);
       short = λ h i. rw first-ones (⊎-elim (λ a. a .0 ∙ settled-by .short h i) (λ a. a .0) (cut (r .n) hs′ i));
@@ -239,11 +242,12 @@ module _ {w : List ℕ} {q o n : ℕ} {fs : List ℕ} {r : Query} {hs hs′ : Li
     finished = record {
       says = says-same (kept .keeps) (inl (omega arith)) (ready .says);
       settled = settled;
+      ranked = ranked;
       flagged = flagged;
       no-threshold = λ i h k. threshold-stored kept i k ∙ settled-by .unused i (omega (arith, ready .is .n));
       listed-most = omega (arith, long .most, kept .count);
       no-serial = rw (kept .count, kept .serials) (ready .tidy .serials);
-      no-score = rw (kept .count, kept .scores) (ready .tidy .scores);
+      no-key = rw (kept .count, kept .keys) (ready .tidy .values);
     }
 
 -- all of the slots picked
@@ -307,7 +311,7 @@ last-positive query ms h =
 
 -- the list of slots that hold messages is those messages' ranking
 listed-is : {r : Query} {query : Rank.Query} (w js : List ℕ) (ms : List Message) → Is r query → map (slot w) js ≡ map stored ms → Messages ms
-    → grows (r .k) [] (map (lineIn w r) js) ≡ lines (ranking query ms)
+    → grows (r .k) [] (map (lineIn w r) js) ≡ keyed (ranking query ms)
 listed-is {r} {query} w js ms is e v =
     ap₂ (λ (k : ℕ) (qs : List Pair). grows k [] (map (λ j. scored qs (slot w j)) js)) (is .k) (is .terms)
     ∙ ap (grows (query .k) []) (sym (map-map (scored (query .terms)) (slot w) js) ∙ ap (map (scored (query .terms))) e)
@@ -324,7 +328,7 @@ module _ {w : List ℕ} {q o n : ℕ} {fs : List ℕ} {r : Query} {l : Ranked} {
   abbrev sum : ℕ
   sum = thresholdSum (query .terms) (take (r .n) hs)
 
-  listed-those : linesOf l ≡ lines (ranking query those)
+  listed-those : keyedOf l ≡ keyed (ranking query those)
   listed-those =
       by .right looked (is .rising) (is .known)
       ∙ having-grows picked (is .rising) (is .known) (r .k)
@@ -361,7 +365,7 @@ module _ {w : List ℕ} {q o n : ℕ} {fs : List ℕ} {r : Query} {l : Ranked} {
     terms = terms;
     says = says;
     is = is;
-    ranked = listed-those ∙ ap lines same;
+    ranked = listed-those ∙ ap keyed same;
     tidy = by .tidy;
     unused = unused;
     safe = λ e. ⊎-elim (λ z. omega (arith, last-positive query ms (omega (arith, terms .k-least)))) (λ p. p .1) safe-all;

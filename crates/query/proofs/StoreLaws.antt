@@ -8,7 +8,7 @@ use lib.ListN.{length, getD, take, drop, set, replicate, length-replicate, getD-
 use lib.Seq.{getD-take, getD-drop, getD-set-same}
 use borrow.Author.Needs.{needs}
 use Rattle.paper.specs.Frame.{numbers, mostListed}
-use Rattle.paper.specs.Layout.{stateLength, recordAt, recordWords, listedIn, thresholdsIn, serialsIn, scoresIn, flagsIn}
+use Rattle.paper.specs.Layout.{stateLength, recordAt, recordWords, listedIn, thresholdsIn, serialsIn, keysIn, flagsIn}
 use Rattle.memory.specs.Words.{words, putWord}
 use Rattle.memory.specs.Keeps.{Keeps, Stored}
 use Rattle.memory.proofs.WordLaws.{words-length, put-word}
@@ -24,7 +24,7 @@ then {i} {n} h k p r =
 
 module _ (q : ℕ) (list : Ranked) {hs fs : List ℕ} (s t : List ℕ) {w₂ w₃ w₄ w₅ : List ℕ} (long : length s ≡ stateLength) (number : q < numbers) (most : list .count ≤ mostListed)
     (put : t ≡ putWord s (listedIn q) (list .count)) (eight : Stored (thresholdsIn q) 8 hs (words t) w₂)
-    (serials : Stored (serialsIn q) mostListed (list .serials) w₂ w₃) (scores : Stored (scoresIn q) mostListed (list .scores) w₃ w₄)
+    (serials : Stored (serialsIn q) mostListed (list .serials) w₂ w₃) (keys : Stored (keysIn q) mostListed (list .keys) w₃ w₄)
     (nine : Stored (flagsIn q) 9 fs w₄ w₅) where
   -- the five writes, the last first
   pub stored-kept : StoredKept q hs list fs (words s) w₅
@@ -33,7 +33,7 @@ module _ (q : ℕ) (list : Ranked) {hs fs : List ℕ} (s t : List ℕ) {w₂ w�
       let one : words t ≡ set (words s) (listedIn q) (list .count) = ap words put ∙ put-word s (listedIn q) (list .count) (omega arith) (omega arith) in
       let end : ℕ = recordAt q + recordWords in
       let f = then (omega arith) (omega arith) nine (keeps-refl end end w₅) in
-      let c = then (omega arith) (omega arith) scores (f .0) in
+      let c = then (omega arith) (omega arith) keys (f .0) in
       let r = then (omega arith) (omega arith) serials (c .0) in
       let h = then (omega arith) (omega arith) eight (r .0) in
       record {
@@ -41,7 +41,7 @@ module _ (q : ℕ) (list : Ranked) {hs fs : List ℕ} (s t : List ℕ) {w₂ w�
         count = keeps-at (h .0) (listedIn q) (inl (omega arith)) ∙ rw one (getD-set-same (words s) (listedIn q) (list .count) 0 (omega arith));
         thresholds = h .1;
         serials = r .1;
-        scores = c .1;
+        keys = c .1;
         flags = f .1;
       }
 

@@ -1,11 +1,12 @@
 -- The three ends of an update: the frame doesn't reach the query, it changes its list, or it changes its candidates alone. Assumes nothing.
-use Prim.Native.Nat.{ℕ, _+_}
+use Prim.Native.Nat.{ℕ, _+_, _/_}
 use native.Mathlib.Omega.{arith}
 use mathlib.Core.Path.{_≡_, refl, sym, _∙_}
 use mathlib.Core.Bool.{Bool, true, false, _||_, true≢false}
 use mathlib.Core.List.{List}
 use lib.Dec.{leb}
 use borrow.Author.Tests.{leb-false}
+use Rattle.paper.specs.Rank.{keyFactor}
 use Rattle.paper.specs.Layout.{recordAt, recordWords, listedIn}
 use Rattle.paper.proofs.Tests.{or-false}
 use Rattle.memory.proofs.KeepsLaws.{keeps-refl, keeps-wider}
@@ -40,14 +41,14 @@ module _ {w : List ℕ} {q : ℕ} {m : Move} {coming going : List ℕ} {touch : 
     }
 
     -- no message scores enough to change the list
-    pub stands : {t : Bool} → t ≡ (leb least (touch .came) || leb least (touch .went)) → t ≡ false → KeptList w q fs w′ → Updated w q m coming going true w′
+    pub stands : {t : Bool} → t ≡ (leb (least / keyFactor) (touch .came) || leb (least / keyFactor) (touch .went)) → t ≡ false → KeptList w q fs w′ → Updated w q m coming going true w′
     stands low none kept = record {
       keeps = keeps-wider (omega arith) (omega arith) (kept .keeps);
       untouched = λ z. absurd (true≢false z);
       right = λ w₀ o n aa ga sa ca query tables change terms held.
-          let p = or-false (leb least (touch .came)) (leb least (touch .went)) (sym low ∙ none) in (
+          let p = or-false (leb (least / keyFactor) (touch .came)) (leb (least / keyFactor) (touch .went)) (sym low ∙ none) in (
             sym e ∙ test ∙ answered touched tables change terms held,
             still-holds change terms held (least-is .is query terms (held .says) (held .listed-most))
-                (told touched tables change terms held flags-are) (leb-false least (touch .came) (p .0)) (leb-false least (touch .went) (p .1)) kept,
+                (told touched tables change terms held flags-are) (leb-false (least / keyFactor) (touch .came) (p .0)) (leb-false (least / keyFactor) (touch .went) (p .1)) kept,
           );
     }

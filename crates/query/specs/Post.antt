@@ -1,5 +1,5 @@
 -- What each function over a record ensures. Assumes nothing.
-use Prim.Native.Nat.{ℕ, zero, suc, _+_, _*_, _^_, _≤_, _<_}
+use Prim.Native.Nat.{ℕ, zero, suc, _+_, _*_, _/_, _^_, _≤_, _<_}
 use mathlib.Core.Path.{_≡_}
 use mathlib.Core.Bool.{Bool, true, false, cond, _&&_, _||_}
 use mathlib.Core.List.{List, [], _∷_, _++_, map}
@@ -8,20 +8,20 @@ use lib.Dec.{eqb, leb, ltb}
 use Rattle.paper.specs.Frame.{mostTerms, mostListed, serialWidth, Pair}
 use Rattle.paper.specs.Impact.{top, score}
 use Rattle.paper.specs.Log.{hasSerial}
-use Rattle.paper.specs.Rank.{lines, ranking}
+use Rattle.paper.specs.Rank.{keyFactor, ranking}
 use Rattle.paper.specs.Rank as Rank
 use Rattle.paper.specs.Window.{Message}
 use Rattle.paper.specs.Order.{In, Split}
 use Rattle.paper.specs.Sort.{select}
 use Rattle.paper.specs.Threshold.{exceeds, thresholdSum, lastScore, reached, termAt, weightAt}
-use Rattle.paper.specs.Layout.{slots, recordAt, recordWords, thresholdsIn, serialsIn, scoresIn, flagsIn, listedIn, flagWords}
+use Rattle.paper.specs.Layout.{slots, recordAt, recordWords, thresholdsIn, serialsIn, keysIn, flagsIn, listedIn, flagWords}
 use Rattle.paper.specs.Sound.{Distinct, Messages, Terms}
 use Rattle.memory.specs.Keeps.{Keeps}
 use Rattle.impact.specs.Cell.{RisingTerms}
 use Rattle.rank.specs.declared.Ranked.{Ranked}
-use Rattle.rank.specs.Listing.{linesOf, lastOf, leastOf, Tidy, grown, withouts, hasNumber}
+use Rattle.rank.specs.Listing.{keyed, keyedWith, keyedOf, lastScoreOf, leastOf, Tidy, grown, withouts, hasNumber}
 use Rattle.rank.specs.Weights.{weightLimit, weightedSum, Raised}
-use Rattle.window.specs.Slot.{slot, stored, ring, live}
+use Rattle.window.specs.Slot.{slot, gradeIn, stored, ring, live}
 use Rattle.window.specs.Table.{TableOf}
 use Rattle.candidates.specs.declared.Query.{Query}
 use Rattle.candidates.specs.Match.{exceedsCells}
@@ -30,7 +30,7 @@ use Rattle.candidates.specs.Post.{termsOf}
 use Rattle.candidates.specs.Rows.{Known, Having, Rows}
 use Rattle.query.specs.declared.Move.{Move}
 use Rattle.query.specs.declared.Touch.{Touch}
-use Rattle.query.specs.Record.{thresholds, flags, list, Says, Held, Holds}
+use Rattle.query.specs.Record.{thresholds, flags, keys, Says, Held, Holds}
 
 -- ---- reading
 
@@ -68,7 +68,7 @@ pub record LoadedList (w : List ℕ) (q : ℕ) (r : Ranked) : Type 0 where
   pub count-most : r .count ≤ mostListed
   pub count-is : getD w (listedIn q) 0 ≤ mostListed → r .count ≡ getD w (listedIn q) 0
   pub serials : r .serials ≡ take mostListed (drop (serialsIn q) w)
-  pub scores : r .scores ≡ take mostListed (drop (scoresIn q) w)
+  pub keys : r .keys ≡ take mostListed (drop (keysIn q) w)
 
 -- ---- thresholds beside a list
 
@@ -77,16 +77,16 @@ sumOf r hs = weightedSum (r .n) (r .weights) hs
 
 -- the list is full, and the threshold sum is below its last score
 abbrev pub Room : Query → List ℕ → Ranked → Type 0
-Room r hs list = (list .count ≡ r .k) × (sumOf r hs < lastOf (linesOf list))
+Room r hs list = (list .count ≡ r .k) × (sumOf r hs < lastScoreOf (keyedOf list))
 
 -- the thresholds raised until tight where there is room, else none
 pub record Lifted (r : Query) (hs : List ℕ) (list : Ranked) (hs′ : List ℕ) : Type 0 where
-  pub room : Room r hs list → Raised (r .n) (r .weights) hs (lastOf (linesOf list)) hs′
+  pub room : Room r hs list → Raised (r .n) (r .weights) hs (lastScoreOf (keyedOf list)) hs′
   pub none : (Room r hs list → ⊥) → (i : ℕ) → getD hs′ i 0 ≡ 0
 
 -- whether no message that scores at most the threshold sum could be listed
 unfoldable pub secure : Query → List ℕ → Ranked → Bool
-secure r hs list = eqb (sumOf r hs) 0 || (leb (r .k) (list .count) && ltb (sumOf r hs) (lastOf (linesOf list)))
+secure r hs list = eqb (sumOf r hs) 0 || (leb (r .k) (list .count) && ltb (sumOf r hs) (lastScoreOf (keyedOf list)))
 
 -- whether the first n of two arrays are the same
 unfoldable pub sameFrom : ℕ → List ℕ → List ℕ → Bool
@@ -101,7 +101,7 @@ pub record StoredKept (q : ℕ) (hs : List ℕ) (list : Ranked) (fs : List ℕ) 
   pub count : getD w′ (listedIn q) 0 ≡ list .count
   pub thresholds : take mostTerms (drop (thresholdsIn q) w′) ≡ hs
   pub serials : take mostListed (drop (serialsIn q) w′) ≡ list .serials
-  pub scores : take mostListed (drop (scoresIn q) w′) ≡ list .scores
+  pub keys : take mostListed (drop (keysIn q) w′) ≡ list .keys
   pub flags : take flagWords (drop (flagsIn q) w′) ≡ fs
 
 -- the window that a query is settled over: of `count` slots from slot `first` on the live ones hold these messages
@@ -116,7 +116,7 @@ pub record Ready (w : List ℕ) (q first count : ℕ) (ms : List Message) (query
   pub terms : Terms query
   pub says : Says w q query
   pub is : Is r query
-  pub ranked : linesOf list ≡ lines (ranking query ms)
+  pub ranked : keyedOf list ≡ keyed (ranking query ms)
   pub tidy : Tidy list
   pub unused : (i : ℕ) → r .n ≤ i → getD hs i 0 ≡ 0
   pub safe : length (ranking query ms) ≡ query .k → thresholdSum (query .terms) (take (r .n) hs) < lastScore (ranking query ms)
@@ -202,25 +202,30 @@ pub record MovedFlags (w : List ℕ) (q : ℕ) (m : Move) (comes : Bool) (r : Li
   pub others : (j : ℕ) → (In j (arriving (m .newest)) → ⊥) → (In j (leaving m) → ⊥) → flagOf r j ≡ flagOf (flags w q) j
 
 pub record Least (w : List ℕ) (q r : ℕ) : Type 0 where
-  pub is : (query : Rank.Query) → Terms query → Says w q query → getD w (listedIn q) 0 ≤ mostListed → r ≡ leastOf (query .k) (list w q)
+  pub is : (query : Rank.Query) → Terms query → Says w q query → getD w (listedIn q) 0 ≤ mostListed → r ≡ leastOf (query .k) (keys w q)
 
 -- only the flags are written
 pub record KeptList (w : List ℕ) (q : ℕ) (fs w′ : List ℕ) : Type 0 where
   pub keeps : Keeps (flagsIn q) (recordAt q + recordWords) w w′
   pub flags-are : flags w′ q ≡ fs
 
--- the messages that leave are taken out of a list, where one of them may change it
+-- the messages that leave are taken out of a list, where one of them scores enough to be in it
 pub record WithoutGone (w : List ℕ) (m : Move) (went least : ℕ) (l r : Ranked) : Type 0 where
   pub within : r .count ≤ l .count
   pub tidy : Tidy l → Tidy r
-  pub list-is : linesOf r ≡ cond (leb least went) (withouts (leavingSerials w m) (linesOf l)) (linesOf l)
+  pub list-is : keyedOf r ≡ cond (leb (least / keyFactor) went) (withouts (leavingSerials w m) (keyedOf l)) (keyedOf l)
+
+-- the key of the message in a slot that scores so much
+abbrev pub keyIn : List ℕ → ℕ → ℕ → ℕ
+keyIn w j score = score * keyFactor + gradeIn (slot w j)
 
 -- an arriving message is put into a list of up to k, where it changes it
 pub record WithNewest (w : List ℕ) (newest came k least : ℕ) (l r : Ranked) : Type 0 where
   pub within : r .count ≤ mostListed
   pub tidy : Tidy l → Tidy r
   pub list-is : l .count ≤ k
-      → linesOf r ≡ cond (ltb newest slots && leb least came) (grown k (record { serial = slot w newest .serial; score = came }) (linesOf l)) (linesOf l)
+      → keyedOf r
+      ≡ cond (ltb newest slots && leb least (keyIn w newest came)) (grown k (keyedWith (slot w newest .serial) (keyIn w newest came)) (keyedOf l)) (keyedOf l)
 
 -- A change of the window from n slots from slot o on, as memory was in w₀, to what the move says, as it is in w: `aa` were in force, `ga` go, `sa` stay,
 -- `ca` come.
@@ -255,7 +260,7 @@ pub record Told (w : List ℕ) (q o′ n : ℕ) (ga ca : List Message) (query : 
 pub record Changed (w : List ℕ) (q : ℕ) (m : Move) (touch : Touch) (least : ℕ) (fs w′ : List ℕ) : Type 0 where
   pub keeps : Keeps (listedIn q) (recordAt q + recordWords) w w′
   pub right : (w₀ : List ℕ) (o n : ℕ) (aa ga sa ca : List Message) (query : Rank.Query) → Change w₀ w o n m aa ga sa ca → Terms query
-      → Held w₀ w q o n aa query → least ≡ leastOf (query .k) (list w q) → Told w q (m .first) (m .count) ga ca query touch fs
+      → Held w₀ w q o n aa query → least ≡ leastOf (query .k) (keys w q) → Told w q (m .first) (m .count) ga ca query touch fs
       → Holds w′ q (m .first) (m .count) (sa ++ ca) query
 
 -- the tables are those of the message that comes and of the messages that go; slots that aren't live add nothing

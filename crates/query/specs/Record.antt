@@ -7,13 +7,13 @@ use mathlib.Core.List.{List, map}
 use mathlib.Core.Option.{Option, none, some}
 use lib.ListN.{length, getD, take, drop}
 use Rattle.paper.specs.Frame.{mostTerms, mostListed}
-use Rattle.paper.specs.Rank.{Query, Line}
+use Rattle.paper.specs.Rank.{Query, Line, ranking}
 use Rattle.paper.specs.Sort.{select}
 use Rattle.paper.specs.Window.{Message}
 use Rattle.paper.specs.Threshold.{Kept, Settled, termAt, weightAt}
 use Rattle.rank.specs.Weights.{weightLimit}
-use Rattle.rank.specs.Listing.{listed, ZeroFrom}
-use Rattle.paper.specs.Layout.{flagWords, recordAt, recordWords, sizeIn, pairsIn, listedIn, thresholdsIn, serialsIn, scoresIn, flagsIn}
+use Rattle.rank.specs.Listing.{Keyed, keyed, keyedWith, listed, shown, ZeroFrom}
+use Rattle.paper.specs.Layout.{flagWords, recordAt, recordWords, sizeIn, pairsIn, listedIn, thresholdsIn, serialsIn, keysIn, flagsIn}
 use Rattle.window.specs.Slot.{slot, ring}
 use Rattle.candidates.specs.Match.{exceedsCells}
 use Rattle.candidates.specs.Flags.{flagOf, inRing}
@@ -26,8 +26,12 @@ thresholds w q n = take n (drop (thresholdsIn q) w)
 unfoldable pub flags : List ℕ → ℕ → List ℕ
 flags w q = take flagWords (drop (flagsIn q) w)
 
-unfoldable pub list : List ℕ → ℕ → List Line
-list w q = listed (getD w (listedIn q) 0) (take mostListed (drop (serialsIn q) w)) (take mostListed (drop (scoresIn q) w))
+unfoldable pub keys : List ℕ → ℕ → List Keyed
+keys w q = listed keyedWith (getD w (listedIn q) 0) (take mostListed (drop (serialsIn q) w)) (take mostListed (drop (keysIn q) w))
+
+-- the list, as a reading shows it
+abbrev pub list : List ℕ → ℕ → List Line
+list w q = map shown (keys w q)
 
 -- the candidates by serial, in the order of acceptance: the flagged slots of the window, which is n slots from slot o on, as they are in w₀
 unfoldable pub candidates : List ℕ → List ℕ → ℕ → ℕ → ℕ → List ℕ
@@ -49,16 +53,18 @@ pub record Says (w : List ℕ) (q : ℕ) (query : Query) : Type 0 where
   pub size : getD w (sizeIn q) 0 ≡ length (query .terms)
   pub pairs : (i : ℕ) → i < mostTerms → getD w (pairsIn q + i) 0 ≡ termAt (query .terms) i * weightLimit + weightAt (query .terms) i
 
--- it says this query, and what is kept is right for the messages in the window, whose slots are as they are in w₀; the places it doesn't use are 0
+-- it says this query, and what is kept is right for the messages in the window, whose slots are as they are in w₀, the list by its keys too; the places it
+-- doesn't use are 0
 pub record Held (w₀ w : List ℕ) (q o n : ℕ) (ms : List Message) (query : Query) : Type 0 where
   pub says : Says w q query
   pub settled : Settled query ms (heldOf w₀ w q o n (length (query .terms)))
+  pub ranked : keys w q ≡ keyed (ranking query ms)
   pub flagged : (j : ℕ)
       → flagOf (flags w q) j ≡ (inRing o n j && exceedsCells (query .terms) (thresholds w q (length (query .terms))) (slot w₀ j .cells))
   pub no-threshold : (i : ℕ) → length (query .terms) ≤ i → i < mostTerms → getD w (thresholdsIn q + i) 0 ≡ 0
   pub listed-most : getD w (listedIn q) 0 ≤ mostListed
   pub no-serial : ZeroFrom (getD w (listedIn q) 0) (take mostListed (drop (serialsIn q) w))
-  pub no-score : ZeroFrom (getD w (listedIn q) 0) (take mostListed (drop (scoresIn q) w))
+  pub no-key : ZeroFrom (getD w (listedIn q) 0) (take mostListed (drop (keysIn q) w))
 
 -- the slots are in the same memory
 abbrev pub Holds : List ℕ → ℕ → ℕ → ℕ → List Message → Query → Type 0

@@ -1,5 +1,5 @@
 -- What a record's terms have in a table of impacts, read off its words. Assumes nothing.
-use Prim.Native.Nat.{ℕ, zero, suc, _+_, _*_, _/_, _%_}
+use Prim.Native.Nat.{ℕ, zero, suc, _+_, _*_, _/_, _%_, _<_}
 use mathlib.Core.Path.{_≡_}
 use mathlib.Core.Bool.{Bool, false, _||_}
 use mathlib.Core.List.{List}
@@ -7,6 +7,7 @@ use lib.ListN.{getD}
 use lib.Dec.{ltb}
 use Rattle.paper.specs.Frame.{mostTerms}
 use Rattle.paper.specs.Layout.{sizeIn, pairsIn, thresholdsIn}
+use Rattle.rank.specs.Listing.{scoreLimit}
 use Rattle.rank.specs.Weights.{weightLimit}
 use Rattle.window.specs.Table.{termLimit, entryOf}
 use Rattle.query.specs.declared.Touch.{Touch}
@@ -35,3 +36,4 @@ pub record Touched (w : List ℕ) (q : ℕ) (coming going : List ℕ) (r : Touch
   pub goes : r .goes ≡ foundAbove w q going size
   pub came : r .came ≡ foundSum w q coming size
   pub went : r .went ≡ foundSum w q going size
+  pub small : r .came < scoreLimit

@@ -11,6 +11,7 @@ ghost use Rattle.paper.specs.Layout.{stateLength, slots, recordAt};
 ghost use Rattle.memory.specs.Words.{words};
 ghost use Rattle.window.specs.Table.{termLimit};
 ghost use Rattle.window.specs.Rows.{rowWidth};
+ghost use Rattle.rank.specs.Listing.{scoreLimit};
 ghost use Rattle.rank.specs.Weights.{weightLimit};
 ghost use Rattle.query.specs.Touch.{Touched};
 ghost use Rattle.query.specs.Post.{Clamped, InRange, LoadedQuery, LoadedThresholds, LoadedList, Lifted, secure, sameFrom, StoredKept, Finished, Attempted, SiftedFrom};
@@ -98,10 +99,10 @@ pub fn load_list(state: &[u8], q: usize) -> Ranked
 {
     let at = layout::RECORDS + layout::RECORD * q;
     let serials = memory::load16(state, at + layout::SERIALS);
-    let scores = memory::load16(state, at + layout::SCORES);
+    let keys = memory::load16(state, at + layout::KEYS);
     Ranked {
         serials,
-        scores,
+        keys,
         count: clamped(memory::get(state, at + layout::LISTED), 0, MOST_LISTED) as usize,
     }
 }
@@ -115,11 +116,11 @@ fn store(state: &mut [u8], q: usize, thresholds: [u32; 8], list: Ranked, flags: 
     let at = layout::RECORDS + layout::RECORD * q;
     let count = list.count;
     let serials = list.serials;
-    let scores = list.scores;
+    let keys = list.keys;
     memory::put(state, at + layout::LISTED, count as u32);
     memory::store8(state, at + layout::THRESHOLDS, thresholds);
     memory::store16(state, at + layout::SERIALS, serials);
-    memory::store16(state, at + layout::SCORES, scores);
+    memory::store16(state, at + layout::KEYS, keys);
     memory::store9(state, at + layout::FLAGS, flags);
 }
 
@@ -329,7 +330,7 @@ fn moved_flags(state: &[u8], q: usize, moved: Move, comes: bool) -> [u32; 9]
     rest
 }
 
-// The least score by which a message that goes or comes can change the list: that of the last entry of a full one, any of one that isn't.
+// The least key by which a message that goes or comes can change the list: that of the last entry of a full one, that of any score of one that isn't.
 fn least(state: &[u8], q: usize) -> u32
     requires { ⌜ (length (now state) ≡ stateLength) × (q < numbers) ⌝ }
     ensures { λ r. ⌜ Least (words (now (state .entry))) q r ⌝ }
@@ -337,12 +338,12 @@ fn least(state: &[u8], q: usize) -> u32
     let at = layout::RECORDS + layout::RECORD * q;
     let listed = clamped(memory::get(state, at + layout::LISTED), 0, MOST_LISTED);
     if listed == 0 {
-        return 1;
+        return rank::KEY_FACTOR;
     }
     if listed != memory::get(state, at) {
-        return 1;
+        return rank::KEY_FACTOR;
     }
-    memory::get(state, at + layout::SCORES + (listed as usize - 1))
+    memory::get(state, at + layout::KEYS + (listed as usize - 1))
 }
 
 // List and thresholds stay: only the candidates change.
@@ -357,13 +358,13 @@ fn keep_list(state: &mut [u8], q: usize, flags: [u32; 9])
     );
 }
 
-// The list without the messages that leave, where one of them may change it.
+// The list without the messages that leave, where one of them scores enough to be in it.
 fn without_gone(state: &[u8], moved: Move, went: u32, least: u32, list: Ranked) -> Ranked
     requires { ⌜ (length (now state) ≡ stateLength) × (moved .gone < slots) × (list .count ≤ mostListed) ⌝ }
     ensures { λ r. ⌜ WithoutGone (words (now (state .entry))) moved went least list r ⌝ }
 {
     let mut rest = list;
-    if went < least {
+    if went < least / rank::KEY_FACTOR {
         return rest;
     }
     let mut j = moved.gone;
@@ -382,13 +383,15 @@ fn without_gone(state: &[u8], moved: Move, went: u32, least: u32, list: Ranked) 
 
 // The list with the arriving message, where there is one and it changes it.
 fn with_newest(state: &[u8], newest: usize, came: u32, k: usize, least: u32, list: Ranked) -> Ranked
-    requires { ⌜ (length (now state) ≡ stateLength) × (k ≤ mostListed) × (list .count ≤ mostListed) ⌝ }
+    requires { ⌜ (length (now state) ≡ stateLength) × (k ≤ mostListed) × (list .count ≤ mostListed) × (came < scoreLimit) ⌝ }
     ensures { λ r. ⌜ WithNewest (words (now (state .entry))) newest came k least list r ⌝ }
 {
     if layout::SLOTS <= newest {
         return list;
     }
-    if came < least {
+    // one that only scores as much as the last entry may stand behind others of that score that aren't listed
+    let key = rank::key(came, window::urgency_in(state, newest));
+    if key < least {
         return list;
     }
     // only in memory that no call left
@@ -396,7 +399,7 @@ fn with_newest(state: &[u8], newest: usize, came: u32, k: usize, least: u32, lis
         return list;
     }
     let serial = window::serial_in(state, newest);
-    rank::inserted(list, k, serial, came)
+    rank::inserted(list, k, serial, key)
 }
 
 fn same(a: [u32; 8], b: [u32; 8]) -> bool
@@ -461,6 +464,7 @@ fn retune(
 // The list changes in place. Where it was full and no longer is, a message that wasn't listed may have to be.
 fn change(state: &mut [u8], q: usize, moved: Move, touch: Touch, least: u32, flags: [u32; 9])
     requires { ⌜ (length (now state) ≡ stateLength) × (q < numbers) × (moved .gone < slots) × (moved .first < slots) × (moved .count < slots) ⌝ }
+    requires { ⌜ touch .came < scoreLimit ⌝ }
     ensures { λ _. ⌜ Changed (words (now (state .entry))) q moved touch least flags (words (now (state .exit))) ⌝ }
 {
     let first = moved.first;
@@ -490,7 +494,9 @@ pub fn update(state: &mut [u8], q: usize, moved: Move, coming: &[u16], going: &[
     }
     let flags = moved_flags(state, q, moved, touch.comes);
     let bound = least(state, q);
-    if window::either(bound <= touch.came, bound <= touch.went) {
+    // by the score alone: a message of the last entry's score may change the list whatever its urgency
+    let score = bound / rank::KEY_FACTOR;
+    if window::either(score <= touch.came, score <= touch.went) {
         change(state, q, moved, touch, bound, flags);
     } else {
         keep_list(state, q, flags);

@@ -3,6 +3,7 @@ pub mod LineLaws
 pub mod LeastLaws
 pub mod KeptLaws
 pub mod RemovedLaws
+pub mod ShownLaws
 pub mod SumLaws
 pub mod SpreadLaws
 pub mod PaperLaws

@@ -1,5 +1,5 @@
 -- Laws of slots: what a slot and a window read of the memory, and a message written into a slot. Assumes nothing.
-use Prim.Native.Nat.{ℕ, zero, suc, _+_, _*_, _%_, _^_, _≤_, _<_}
+use Prim.Native.Nat.{ℕ, zero, suc, _+_, _*_, _/_, _%_, _^_, _≤_, _<_}
 use native.Mathlib.Nat.{not-suc-le-zero, min-le-left, min-le-right, min-eq-left}
 use native.Mathlib.Omega.{arith}
 use mathlib.Core.Path.{_≡_, refl, sym, ap, ap₂, _∙_}
@@ -10,13 +10,14 @@ use lib.ListN.{length, getD, set, take, drop, length-set, length-take, length-dr
 use lib.Seq.{getD-take, getD-drop, getD-set-same, getD-set-other}
 use lib.Dec.{ltb}
 use borrow.Author.Tests.{ltb-false}
-use Rattle.paper.specs.Frame.{mostPairs}
+use Rattle.paper.specs.Frame.{level, mostPairs}
 use Rattle.paper.specs.Impact.{impact, squares}
 use Rattle.paper.specs.Order.{In}
 use Rattle.paper.specs.Sort.{select}
 use Rattle.paper.specs.Window.{Message}
 use Rattle.paper.specs.Write.{side-by-side}
-use Rattle.paper.specs.Layout.{slots, serialOffset, cellCountOffset, slotWords, slotAt, cellsAt, recordAt, stateLength}
+use Rattle.paper.specs.Layout.{slots, serialOffset, cellCountOffset, cellLimit, slotWords, slotAt, cellsAt, recordAt, stateLength}
+use Rattle.paper.proofs.FrameLaws.{level-most}
 use Rattle.paper.proofs.SortLaws.{in-select, select-in, select-map, select-append}
 use Rattle.memory.specs.Words.{words, putWord}
 use Rattle.memory.specs.Keeps.{Keeps, Stored}
@@ -24,7 +25,7 @@ use Rattle.memory.proofs.WordLaws.{words-length, put-word, put-length}
 use Rattle.memory.proofs.KeepsLaws.{keeps-trans, keeps-wider, keeps-set, keeps-at, keeps-part}
 use Rattle.impact.specs.Cell.{packed, cellOf, cellsOf, squaresOf}
 use Rattle.impact.proofs.CellLaws.{squares-side}
-use Rattle.window.specs.Slot.{Slot, slot, sizeAt, stored, silenced, ring, window, live}
+use Rattle.window.specs.Slot.{Slot, slot, sizeAt, gradeIn, stored, silenced, ring, window, live}
 use Rattle.window.specs.Cursor.{Written, Cancelled}
 use Rattle.window.proofs.RingLaws.{ring-length, ring-below}
 
@@ -32,7 +33,7 @@ use Rattle.window.proofs.RingLaws.{ring-length, ring-below}
 
 module _ (s : List ℕ) (j : ℕ) (long : length s ≡ stateLength) (below : j < slots) where
   pub size-most : sizeAt (words s) j ≤ mostPairs
-  size-most = min-le-right (getD (words s) (slotAt j + cellCountOffset) 0) mostPairs
+  size-most = min-le-right (getD (words s) (slotAt j + cellCountOffset) 0 % cellLimit) mostPairs
 
   pub slot-size : length (slot (words s) j .cells) ≡ sizeAt (words s) j
   unfolding slot
@@ -47,7 +48,7 @@ module _ (s : List ℕ) (j : ℕ) (long : length s ≡ stateLength) (below : j <
 pub silent-cells : (w : List ℕ) (j : ℕ) → ltb 0 (slot w j .size) ≡ false → slot w j .cells ≡ []
 unfolding slot
 silent-cells w j e =
-    let size : ℕ = getD w (slotAt j + cellCountOffset) 0 in
+    let size : ℕ = getD w (slotAt j + cellCountOffset) 0 % cellLimit in
     let none : sizeAt w j ≡ 0 = omega (arith, ltb-false 0 size e, min-le-left size mostPairs) in
     ap (λ (n : ℕ). take n (drop (cellsAt j) w)) none
 
@@ -79,7 +80,7 @@ live-slots w js = sym (select-map (slot w) (λ (x : Slot). ltb 0 (x .size)) js)
 pub slot-kept : {a e : ℕ} {w w′ : List ℕ} → Keeps a e w w′ → (j : ℕ) → (slotAt j + slotWords ≤ a) ⊎ (e ≤ slotAt j) → slot w′ j ≡ slot w j
 unfolding slot
 slot-kept {a} {e} {w} {w′} kept j d =
-    let most : sizeAt w j ≤ mostPairs = min-le-right (getD w (slotAt j + cellCountOffset) 0) mostPairs in
+    let most : sizeAt w j ≤ mostPairs = min-le-right (getD w (slotAt j + cellCountOffset) 0 % cellLimit) mostPairs in
     rw (
       word (slotAt j) (omega arith) (omega arith),
       word (slotAt j + serialOffset) (omega arith) (omega arith),
@@ -131,17 +132,18 @@ module _ (m : ℕ) (ts fs : List ℕ) (ht : m ≤ length ts) (hf : m ≤ length 
   unfolding cellsOf
   cell-at i h = cells-in (squares (side-by-side m ts fs)) m ts fs ht hf .1 i h ∙ ap (λ (n : ℕ). packed (getD ts i 0) (getD fs i 0) (impact (getD fs i 0) n)) (squares-side m ts fs ht)
 
--- in words: time, serial and number of cells, then the cells
-slot-written : (j : ℕ) (x : Message) (m : ℕ) (w w′ : List ℕ) → slotAt j + slotWords ≤ length w → m ≤ mostPairs → length (x .pairs) ≡ m
-    → Stored (cellsAt j) m (cellsOf (x .pairs)) (set (set (set w (slotAt j) (x .time)) (slotAt j + serialOffset) (x .serial)) (slotAt j + cellCountOffset) m) w′
+-- in words: time, serial and the number of cells with the urgency above it, then the cells
+slot-written : (j : ℕ) (x : Message) (m v : ℕ) (w w′ : List ℕ) → slotAt j + slotWords ≤ length w → m ≤ mostPairs → length (x .pairs) ≡ m
+    → v ≡ m + cellLimit * level (x .urgency)
+    → Stored (cellsAt j) m (cellsOf (x .pairs)) (set (set (set w (slotAt j) (x .time)) (slotAt j + serialOffset) (x .serial)) (slotAt j + cellCountOffset) v) w′
     → Written j x w w′
 unfolding slot stored
-slot-written j x m w w′ long few all cells = record {
+slot-written j x m v w w′ long few all is cells = record {
   keeps =
       keeps-trans (one w (slotAt j) (x .time) (omega arith) (omega arith))
       (keeps-trans (one w₁ (slotAt j + serialOffset) (x .serial) (omega arith) (omega arith))
-      (keeps-trans (one w₂ (slotAt j + cellCountOffset) m (omega arith) (omega arith)) (keeps-wider (omega arith) (omega arith) (cells .keeps))));
-  holds = rw (time-is, serial-is, size-is, min-eq-left few, cells .reads, all);
+      (keeps-trans (one w₂ (slotAt j + cellCountOffset) v (omega arith) (omega arith)) (keeps-wider (omega arith) (omega arith) (cells .keeps))));
+  holds = rw (time-is, serial-is, word-is, urgency-is, size-is, min-eq-left few, cells .reads, all);
 }
   where
     w₁ : List ℕ
@@ -151,10 +153,10 @@ slot-written j x m w w′ long few all cells = record {
     w₂ = set w₁ (slotAt j + serialOffset) (x .serial)
 
     w₃ : List ℕ
-    w₃ = set w₂ (slotAt j + cellCountOffset) m
+    w₃ = set w₂ (slotAt j + cellCountOffset) v
 
-    one : (v : List ℕ) (i y : ℕ) → slotAt j ≤ i → i < slotAt j + slotWords → Keeps (slotAt j) (slotAt j + slotWords) v (set v i y)
-    one v i y l h = keeps-wider l h (keeps-set v i y)
+    one : (u : List ℕ) (i y : ℕ) → slotAt j ≤ i → i < slotAt j + slotWords → Keeps (slotAt j) (slotAt j + slotWords) u (set u i y)
+    one u i y l h = keeps-wider l h (keeps-set u i y)
 
     before : (i : ℕ) → i < cellsAt j → getD w′ i 0 ≡ getD w₃ i 0
     before i h = cells .keeps .below i h
@@ -162,35 +164,41 @@ slot-written j x m w w′ long few all cells = record {
     time-is : getD w′ (slotAt j) 0 ≡ x .time
     time-is =
         before (slotAt j) (omega arith)
-        ∙ getD-set-other w₂ (slotAt j + cellCountOffset) (slotAt j) m 0 (omega arith)
+        ∙ getD-set-other w₂ (slotAt j + cellCountOffset) (slotAt j) v 0 (omega arith)
         ∙ getD-set-other w₁ (slotAt j + serialOffset) (slotAt j) (x .serial) 0 (omega arith)
         ∙ getD-set-same w (slotAt j) (x .time) 0 (omega arith)
 
     serial-is : getD w′ (slotAt j + serialOffset) 0 ≡ x .serial
     serial-is =
         before (slotAt j + serialOffset) (omega arith)
-        ∙ getD-set-other w₂ (slotAt j + cellCountOffset) (slotAt j + serialOffset) m 0 (omega arith)
+        ∙ getD-set-other w₂ (slotAt j + cellCountOffset) (slotAt j + serialOffset) v 0 (omega arith)
         ∙ getD-set-same w₁ (slotAt j + serialOffset) (x .serial) 0 (let l = length-set w (slotAt j) (x .time) in omega arith)
 
-    size-is : getD w′ (slotAt j + cellCountOffset) 0 ≡ m
-    size-is =
+    word-is : getD w′ (slotAt j + cellCountOffset) 0 ≡ v
+    word-is =
         before (slotAt j + cellCountOffset) (omega arith)
-        ∙ getD-set-same w₂ (slotAt j + cellCountOffset) m 0
+        ∙ getD-set-same w₂ (slotAt j + cellCountOffset) v 0
         (let l = length-set w (slotAt j) (x .time) in let k = length-set w₁ (slotAt j + serialOffset) (x .serial) in omega arith)
 
+    urgency-is : v / cellLimit ≡ level (x .urgency)
+    urgency-is = omega arith
+
+    size-is : v % cellLimit ≡ m
+    size-is = omega arith
+
 -- as the words are put one after the other
-pub message-written : (j : ℕ) (x : Message) (m : ℕ) (s₀ s₁ s₂ s₃ : List ℕ) {w′ : List ℕ} → length s₀ ≡ stateLength → j < slots → m ≤ mostPairs
-    → length (x .pairs) ≡ m → x .time < 2 ^ 32 → x .serial < 2 ^ 32 → s₁ ≡ putWord s₀ (slotAt j) (x .time)
-    → s₂ ≡ putWord s₁ (slotAt j + serialOffset) (x .serial) → s₃ ≡ putWord s₂ (slotAt j + cellCountOffset) m
+pub message-written : (j : ℕ) (x : Message) (m : ℕ) (s₀ s₁ s₂ s₃ : List ℕ) {v : ℕ} {w′ : List ℕ} → length s₀ ≡ stateLength → j < slots → m ≤ mostPairs
+    → length (x .pairs) ≡ m → v ≡ m + cellLimit * level (x .urgency) → x .time < 2 ^ 32 → x .serial < 2 ^ 32 → s₁ ≡ putWord s₀ (slotAt j) (x .time)
+    → s₂ ≡ putWord s₁ (slotAt j + serialOffset) (x .serial) → s₃ ≡ putWord s₂ (slotAt j + cellCountOffset) v
     → Stored (cellsAt j) m (cellsOf (x .pairs)) (words s₃) w′ → Written j x (words s₀) w′
-message-written j x m s₀ s₁ s₂ s₃ {w′} long low few all ht hs e₁ e₂ e₃ cells =
+message-written j x m s₀ s₁ s₂ s₃ {v} {w′} long low few all is ht hs e₁ e₂ e₃ cells =
     let l₁ : length s₁ ≡ length s₀ = ap length e₁ ∙ put-length s₀ (slotAt j) (x .time) in
     let l₂ : length s₂ ≡ length s₁ = ap length e₂ ∙ put-length s₁ (slotAt j + serialOffset) (x .serial) in
     let l = words-length s₀ in
-    slot-written j x m (words s₀) w′ (omega arith) few all
+    slot-written j x m v (words s₀) w′ (omega arith) few all is
     (rw (
       e₃,
-      put-word s₂ (slotAt j + cellCountOffset) m (omega arith) (omega arith),
+      put-word s₂ (slotAt j + cellCountOffset) v (omega arith) (omega (arith, level-most (x .urgency))),
       e₂,
       put-word s₁ (slotAt j + serialOffset) (x .serial) (omega arith) hs,
       e₁,
@@ -199,44 +207,51 @@ message-written j x m s₀ s₁ s₂ s₃ {w′} long low few all ht hs e₁ e�
 
 -- ---- a message cancelled
 
--- in words: the serial, then the number of cells
-slot-silenced : (j x : ℕ) (w : List ℕ) → slotAt j + slotWords ≤ length w → x ≡ slot w j .serial % 1048576 + 1048576 * sizeAt w j
-    → Cancelled j w (set (set w (slotAt j + serialOffset) x) (slotAt j + cellCountOffset) 0)
+-- in words: the serial, then no cells with the urgency above them
+slot-silenced : (j x v : ℕ) (w : List ℕ) → slotAt j + slotWords ≤ length w → x ≡ slot w j .serial % 1048576 + 1048576 * sizeAt w j
+    → v ≡ cellLimit * gradeIn (slot w j) → Cancelled j w (set (set w (slotAt j + serialOffset) x) (slotAt j + cellCountOffset) v)
 unfolding slot silenced
-slot-silenced j x w long is = record {
-  keeps = keeps-trans (one w (slotAt j + serialOffset) x (omega arith) (omega arith)) (one w₁ (slotAt j + cellCountOffset) 0 (omega arith) (omega arith));
-  silent = rw (time-is, serial-is, size-is, is);
+slot-silenced j x v w long is kept = record {
+  keeps = keeps-trans (one w (slotAt j + serialOffset) x (omega arith) (omega arith)) (one w₁ (slotAt j + cellCountOffset) v (omega arith) (omega arith));
+  silent = rw (time-is, serial-is, word-is, urgency-is, size-is, is);
 }
   where
     w₁ : List ℕ
     w₁ = set w (slotAt j + serialOffset) x
 
-    one : (v : List ℕ) (i y : ℕ) → slotAt j + serialOffset ≤ i → i < cellsAt j → Keeps (slotAt j + serialOffset) (cellsAt j) v (set v i y)
-    one v i y l h = keeps-wider l h (keeps-set v i y)
+    one : (u : List ℕ) (i y : ℕ) → slotAt j + serialOffset ≤ i → i < cellsAt j → Keeps (slotAt j + serialOffset) (cellsAt j) u (set u i y)
+    one u i y l h = keeps-wider l h (keeps-set u i y)
 
-    time-is : getD (set w₁ (slotAt j + cellCountOffset) 0) (slotAt j) 0 ≡ getD w (slotAt j) 0
+    time-is : getD (set w₁ (slotAt j + cellCountOffset) v) (slotAt j) 0 ≡ getD w (slotAt j) 0
     time-is =
-        getD-set-other w₁ (slotAt j + cellCountOffset) (slotAt j) 0 0 (omega arith)
+        getD-set-other w₁ (slotAt j + cellCountOffset) (slotAt j) v 0 (omega arith)
         ∙ getD-set-other w (slotAt j + serialOffset) (slotAt j) x 0 (omega arith)
 
-    serial-is : getD (set w₁ (slotAt j + cellCountOffset) 0) (slotAt j + serialOffset) 0 ≡ x
+    serial-is : getD (set w₁ (slotAt j + cellCountOffset) v) (slotAt j + serialOffset) 0 ≡ x
     serial-is =
-        getD-set-other w₁ (slotAt j + cellCountOffset) (slotAt j + serialOffset) 0 0 (omega arith)
+        getD-set-other w₁ (slotAt j + cellCountOffset) (slotAt j + serialOffset) v 0 (omega arith)
         ∙ getD-set-same w (slotAt j + serialOffset) x 0 (omega arith)
 
-    size-is : getD (set w₁ (slotAt j + cellCountOffset) 0) (slotAt j + cellCountOffset) 0 ≡ 0
-    size-is = getD-set-same w₁ (slotAt j + cellCountOffset) 0 0 (let l = length-set w (slotAt j + serialOffset) x in omega arith)
+    word-is : getD (set w₁ (slotAt j + cellCountOffset) v) (slotAt j + cellCountOffset) 0 ≡ v
+    word-is = getD-set-same w₁ (slotAt j + cellCountOffset) v 0 (let l = length-set w (slotAt j + serialOffset) x in omega arith)
+
+    urgency-is : v / cellLimit ≡ gradeIn (slot w j)
+    urgency-is = omega arith
+
+    size-is : v % cellLimit ≡ 0
+    size-is = omega arith
 
 -- as the words are put one after the other
-pub slot-cancelled : (j : ℕ) (s₀ s₁ s₂ : List ℕ) {x : ℕ} → length s₀ ≡ stateLength → j < slots → x ≡ slot (words s₀) j .serial % 1048576 + 1048576 * sizeAt (words s₀) j
-    → s₁ ≡ putWord s₀ (slotAt j + serialOffset) x → s₂ ≡ putWord s₁ (slotAt j + cellCountOffset) 0 → Cancelled j (words s₀) (words s₂)
-slot-cancelled j s₀ s₁ s₂ {x} long low is e₁ e₂ =
+pub slot-cancelled : (j : ℕ) (s₀ s₁ s₂ : List ℕ) {x v : ℕ} → length s₀ ≡ stateLength → j < slots → x ≡ slot (words s₀) j .serial % 1048576 + 1048576 * sizeAt (words s₀) j
+    → v ≡ cellLimit * gradeIn (slot (words s₀) j) → s₁ ≡ putWord s₀ (slotAt j + serialOffset) x → s₂ ≡ putWord s₁ (slotAt j + cellCountOffset) v
+    → Cancelled j (words s₀) (words s₂)
+slot-cancelled j s₀ s₁ s₂ {x} {v} long low is kept e₁ e₂ =
     let l₁ : length s₁ ≡ length s₀ = ap length e₁ ∙ put-length s₀ (slotAt j + serialOffset) x in
     let l = words-length s₀ in
-    let few = min-le-right (getD (words s₀) (slotAt j + cellCountOffset) 0) mostPairs in
+    let few = min-le-right (getD (words s₀) (slotAt j + cellCountOffset) 0 % cellLimit) mostPairs in
     rw (
       e₂,
-      put-word s₁ (slotAt j + cellCountOffset) 0 (omega arith) (omega arith),
+      put-word s₁ (slotAt j + cellCountOffset) v (omega arith) (omega arith),
       e₁,
       put-word s₀ (slotAt j + serialOffset) x (omega arith) (omega arith),
-    ) (slot-silenced j x (words s₀) (omega arith) is)
+    ) (slot-silenced j x v (words s₀) (omega arith) is kept)

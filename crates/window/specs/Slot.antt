@@ -1,45 +1,60 @@
 -- What a slot of the ring holds, and the slots that are in the window. `w` is the state memory in words. Assumes nothing.
-use Prim.Native.Nat.{ℕ, zero, suc, _+_, _*_, _%_, _^_, min}
+use Prim.Native.Nat.{ℕ, zero, suc, _+_, _*_, _/_, _%_, _^_, min}
 use mathlib.Core.Bool.{Bool, false, cond, _||_}
 use mathlib.Core.List.{List, [], _∷_, map}
 use lib.ListN.{length, getD, take, drop}
 use lib.Dec.{eqb, ltb}
-use Rattle.paper.specs.Frame.{mostPairs, serialWidth}
+use Rattle.paper.specs.Frame.{level, mostPairs, serialWidth, urgencyWidth}
 use Rattle.paper.specs.Sort.{select}
 use Rattle.paper.specs.Window.{Message, past}
-use Rattle.paper.specs.Layout.{slots, serialOffset, cellCountOffset, slotAt, cellsAt}
+use Rattle.paper.specs.Layout.{slots, serialOffset, cellCountOffset, cellLimit, slotAt, cellsAt}
 use Rattle.impact.specs.Cell.{cellsOf}
 
 pub record Slot : Type 0 where
   pub time : ℕ
   pub serial : ℕ
+  pub urgency : ℕ
   pub size : ℕ
   pub cells : List ℕ
 
 -- how many cells a slot has, at most as many as it has room for whatever memory says
 abbrev pub sizeAt : List ℕ → ℕ → ℕ
-sizeAt w j = min (getD w (slotAt j + cellCountOffset) 0) mostPairs
+sizeAt w j = min (getD w (slotAt j + cellCountOffset) 0 % cellLimit) mostPairs
 
+-- The word with the number of cells has the urgency above it.
 unfoldable pub slot : List ℕ → ℕ → Slot
 slot w j =
     record {
       time = getD w (slotAt j) 0;
       serial = getD w (slotAt j + serialOffset) 0;
-      size = getD w (slotAt j + cellCountOffset) 0;
+      urgency = getD w (slotAt j + cellCountOffset) 0 / cellLimit;
+      size = getD w (slotAt j + cellCountOffset) 0 % cellLimit;
       cells = take (sizeAt w j) (drop (cellsAt j) w);
     }
 
--- the slot that a message is stored in: the size word is its number of pairs
+-- how urgent a slot's message is, of no more bits than a frame gives an urgency whatever memory says
+abbrev pub gradeIn : Slot → ℕ
+gradeIn x = x .urgency % 2 ^ urgencyWidth
+
+-- the slot that a message is stored in: the size is its number of pairs
 unfoldable pub stored : Message → Slot
-stored m = record { time = m .time; serial = m .serial; size = length (m .pairs); cells = cellsOf (m .pairs) }
+stored m =
+    record {
+      time = m .time;
+      serial = m .serial;
+      urgency = level (m .urgency);
+      size = length (m .pairs);
+      cells = cellsOf (m .pairs);
+    }
 
 -- A slot once its message is cancelled: it has no cells, and its serial is none that a frame can say. How many cells it had stands above the bits of
--- the serial.
+-- the serial; the urgency stays.
 unfoldable pub silenced : Slot → Slot
 silenced x =
     record {
       time = x .time;
       serial = x .serial % 2 ^ serialWidth + 2 ^ serialWidth * min (x .size) mostPairs;
+      urgency = gradeIn x;
       size = 0;
       cells = [];
     }

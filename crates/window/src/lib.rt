@@ -3,14 +3,15 @@ ghost use mathlib.Core.Path.{_≡_};
 ghost use Prim.Native.Nat.{ℕ, _+_, _*_, _-_, _%_, _^_, _<_, _≤_, max};
 ghost use mathlib.Core.Bool.{false, _||_};
 ghost use lib.ListN.{length, getD};
-ghost use Rattle.paper.specs.Frame.{termWidth, countWidth, mostPairs, mostTerms};
+ghost use Rattle.paper.specs.Frame.{level, urgencyOf, termWidth, countWidth, mostPairs, mostTerms};
+ghost use Rattle.paper.specs.Frame.Urgency.{vital};
 ghost use Rattle.paper.specs.Window.{past};
 ghost use Rattle.paper.specs.Write.{side-by-side};
 ghost use Rattle.paper.specs.Layout.{slots, stateWords, stateLength};
 ghost use Rattle.memory.specs.Words.{words};
 ghost use Rattle.memory.specs.Keeps.{Stored};
 ghost use Rattle.impact.specs.Cell.{cellsOf, lookup};
-ghost use Rattle.window.specs.Slot.{slot, sizeAt, ring, window, live, next, holdsSerial, seek};
+ghost use Rattle.window.specs.Slot.{slot, sizeAt, gradeIn, ring, window, live, next, holdsSerial, seek};
 ghost use Rattle.window.specs.Table.{termLimit, Raised, RaisedBy};
 ghost use Rattle.window.specs.Rows.{rowWidth, touches, LookedAt};
 ghost use Rattle.window.specs.Cursor.{Loaded, PutCursor, Advanced, Roomy, Written, Cancelled};
@@ -50,12 +51,22 @@ pub fn serial_in(state: &[u8], j: usize) -> u32
     memory::get(state, layout::RING + layout::SLOT * j + layout::SERIAL)
 }
 
+// The urgency of the message in slot j, which stands above its number of cells.
+pub fn urgency_in(state: &[u8], j: usize) -> u32
+    requires { ⌜ (length (now state) ≡ stateLength) × (j < slots) ⌝ }
+    ensures { λ r. ⌜ r ≡ gradeIn (slot (words (now (state .entry))) j) ⌝ }
+{
+    let word = memory::get(state, layout::RING + layout::SLOT * j + layout::CELL_COUNT);
+    word / layout::CELL_LIMIT % paper::URGENCY_LIMIT
+}
+
 // How many cells the message in slot j has, at most as many as a slot has room for whatever memory holds.
 fn size_in(state: &[u8], j: usize) -> usize
     requires { ⌜ (length (now state) ≡ stateLength) × (j < slots) ⌝ }
     ensures { λ r. ⌜ r ≡ sizeAt (words (now (state .entry))) j ⌝ }
 {
-    let size = memory::get(state, layout::RING + layout::SLOT * j + layout::CELL_COUNT) as usize;
+    let word = memory::get(state, layout::RING + layout::SLOT * j + layout::CELL_COUNT);
+    let size = (word % layout::CELL_LIMIT) as usize;
     if size < MOST_PAIRS { size } else { MOST_PAIRS }
 }
 
@@ -294,7 +305,8 @@ pub fn in_force(state: &[u8], first: usize, count: usize) -> usize
     found
 }
 
-// The message in slot j is cancelled: nobody sees cells of it any more, and no frame can say its serial. How many cells it had is kept beside the serial.
+// The message in slot j is cancelled: nobody sees cells of it any more, and no frame can say its serial. How many cells it had is kept
+// beside the serial, and the urgency where it stands: nothing of the message is lost.
 pub fn cancel(state: &mut [u8], j: usize)
     requires { ⌜ (length (now state) ≡ stateLength) × (j < slots) ⌝ }
     ensures { λ _. ⌜ Cancelled j (words (now (state .entry))) (words (now (state .exit))) ⌝ }
@@ -302,8 +314,9 @@ pub fn cancel(state: &mut [u8], j: usize)
     let at = layout::RING + layout::SLOT * j;
     let serial = serial_in(state, j) % paper::SERIALS;
     let size = size_in(state, j) as u32;
+    let urgency = urgency_in(state, j);
     memory::put(state, at + layout::SERIAL, serial + paper::SERIALS * size);
-    memory::put(state, at + layout::CELL_COUNT, 0);
+    memory::put(state, at + layout::CELL_COUNT, layout::CELL_LIMIT * urgency);
 }
 
 // The message's cells, from word `at` on.
@@ -330,23 +343,25 @@ fn put_cells(
     }
 }
 
-// A message takes slot j.
+// A message takes slot j. No frame has an urgency above vital.
 pub fn put_message(
     state: &mut [u8],
     j: usize,
     time: u32,
     serial: u32,
+    urgency: u32,
     m: usize,
     terms: [u32; MOST_PAIRS],
     counts: [u32; MOST_PAIRS],
 )
-    requires { ⌜ (length (now state) ≡ stateLength) × (j < slots) × (m ≤ mostPairs) ⌝ }
+    requires { ⌜ (length (now state) ≡ stateLength) × (j < slots) × (urgency ≤ level vital) × (m ≤ mostPairs) ⌝ }
     requires { ⌜ ((i : ℕ) → i < m → (getD terms i 0 < 2 ^ termWidth) × (getD counts i 0 < 2 ^ countWidth)) ⌝ }
-    ensures { λ _. ⌜ Written j (record { time = time; serial = serial; pairs = side-by-side m terms counts; cancelled = false }) (words (now (state .entry))) (words (now (state .exit))) ⌝ }
+    ensures { λ _. ⌜ Written j (record { time = time; serial = serial; urgency = urgencyOf urgency; pairs = side-by-side m terms counts; cancelled = false }) (words (now (state .entry))) (words (now (state .exit))) ⌝ }
 {
     let at = layout::RING + layout::SLOT * j;
     memory::put(state, at, time);
     memory::put(state, at + layout::SERIAL, serial);
-    memory::put(state, at + layout::CELL_COUNT, m as u32);
+    let word = m as u32 + layout::CELL_LIMIT * urgency;
+    memory::put(state, at + layout::CELL_COUNT, word);
     put_cells(state, at + layout::CELLS, m, terms, counts);
 }

@@ -27,8 +27,9 @@ pub fn print() {
     println!("| frame | ratio |\n|---|---|");
     let mut times = String::from("In nanoseconds, proved and plain:");
     for (name, frame) in [
-        ("message of 16 pairs", Frame::Message { time: 123_456, serial: 98_765, pairs: pairs(16) }),
-        ("message of 8 pairs", Frame::Message { time: 123_456, serial: 98_765, pairs: pairs(8) }),
+        ("message of 16 pairs", Frame::Message { time: 123_456, serial: 98_765, urgency: None, pairs: pairs(16) }),
+        ("message of 8 pairs", Frame::Message { time: 123_456, serial: 98_765, urgency: None, pairs: pairs(8) }),
+        ("urgent message of 8 pairs", Frame::Message { time: 123_456, serial: 98_765, urgency: Some(2), pairs: pairs(8) }),
         ("tick", Frame::Tick { time: 123_456 }),
         ("cancel", Frame::Cancel { time: 123_456, serial: 98_765 }),
         ("register of 8 terms", Frame::Register { time: 123_456, number: 17, k: 9, terms: pairs(8) }),

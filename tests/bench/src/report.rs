@@ -2,7 +2,7 @@
 
 use crate::measure::{beside, measured, Row, EARLIER, RIVALS};
 use crate::proved::Earlier;
-use crate::workload::{Departure, Passage, Setting, MESSAGES, SEED, SHARED};
+use crate::workload::{Departure, Passage, Setting, GRADED, MESSAGES, SEED, SHARED, UNGRADED};
 use crate::{impacts, plot, reading};
 
 /// The classroom: so many engines on one machine, each taking in so many messages.
@@ -11,6 +11,9 @@ const BOARD_MESSAGES: usize = 400;
 
 /// How many messages depart from each of the full windows of as many engines.
 const DEPARTURES: usize = 50;
+
+/// So few terms that, each being counted once, most scores are equal.
+const TIED_TERMS: u64 = 4;
 
 /// The rivals of the first table end here, and those of the others, without the full re-rank, start here.
 const FIRST: usize = 6;
@@ -62,29 +65,49 @@ fn largest(rows: &[Row]) {
     }
 }
 
+/// A passage for each engine of a classroom, from a seed of its own.
+fn each_its_own(passage: impl Fn(u64) -> Passage) -> Vec<Passage> {
+    (0..BOARDS).map(|board| passage(SEED + board)).collect()
+}
+
 fn classroom() {
     head(&["messages", "queries", "messages per second for each"], QUICK..RIVALS.len(), &[]);
     for queries in [1, 32] {
         let setting = Setting { capacity: 256, queries, terms: SHARED[0].0 };
-        let own: Vec<_> = (0..BOARDS).map(|board| Passage::new(setting, BOARD_MESSAGES, SEED + board)).collect();
+        let own = each_its_own(|seed| Passage::new(setting, BOARD_MESSAGES, seed));
         let own: Vec<_> = own.iter().collect();
         quick_line("the same", &measured(&vec![own[0]; own.len()], &RIVALS[QUICK..]));
         quick_line("each its own", &measured(&own, &RIVALS[QUICK..]));
     }
 }
 
-/// Departures from full windows, by ticks and by cancellations: the proved engine's time for the second over that for the first; then the rivals over
-/// the proved engine, for cancellations.
+/// The proved engine's time for the second passages over that for the first; then the rivals over the proved engine, for the second.
+fn compared(known: &[String], first: &[Passage], second: &[Passage]) {
+    let (first, second) = (first.iter().collect::<Vec<_>>(), second.iter().collect::<Vec<_>>());
+    let ratios = [vec![beside(&first, &second)], measured(&second, &RIVALS[QUICK..]).ratios].concat();
+    line(&[known, &two_digits(&ratios)].concat());
+}
+
+/// Departures from full windows, by ticks and by cancellations.
 fn cancellations() {
     head(&["shared terms", "queries", "a cancellation over a tick"], QUICK..RIVALS.len(), &[]);
     for (terms, shared) in SHARED {
         for queries in [1, 32] {
             let setting = Setting { capacity: 256, queries, terms };
-            let departing = |by| (0..BOARDS).map(|board| Passage::departing(setting, DEPARTURES, by, SEED + board)).collect::<Vec<_>>();
-            let (ticks, cancels) = (departing(Departure::Tick), departing(Departure::Cancel));
-            let (ticks, cancels) = (ticks.iter().collect::<Vec<_>>(), cancels.iter().collect::<Vec<_>>());
-            let ratios = [vec![beside(&ticks, &cancels)], measured(&cancels, &RIVALS[QUICK..]).ratios].concat();
-            line(&[vec![shared.into(), queries.to_string()], two_digits(&ratios)].concat());
+            let departing = |by| each_its_own(|seed| Passage::departing(setting, DEPARTURES, by, seed));
+            compared(&[shared.into(), queries.to_string()], &departing(Departure::Tick), &departing(Departure::Cancel));
+        }
+    }
+}
+
+/// Messages with equal scores, without an urgency and with one.
+fn ties() {
+    head(&["N", "queries", "with urgencies over without"], QUICK..RIVALS.len(), &[]);
+    for capacity in [16, 256] {
+        for queries in [1, 32] {
+            let setting = Setting { capacity, queries, terms: TIED_TERMS };
+            let tied = |urgency| each_its_own(|seed| Passage::tied(setting, BOARD_MESSAGES, urgency, seed));
+            compared(&[capacity.to_string(), queries.to_string()], &tied(UNGRADED), &tied(GRADED));
         }
     }
 }
@@ -99,6 +122,8 @@ pub fn print(path: &str) {
     classroom();
     println!("\nDepartures from full windows: {BOARDS} engines, N 256, {DEPARTURES} messages from each:\n");
     cancellations();
+    println!("\nEqual scores ranked by urgency: {BOARDS} engines, {TIED_TERMS} terms in all, each counted once:\n");
+    ties();
     println!("\nThe impacts of a message alone, in plain Rust; the ratio is the way's time over that of the unit and the table:\n");
     impacts::print();
     println!("\nReading a frame alone; the ratio is the plain reader's time over the proved one's:\n");

@@ -1,5 +1,5 @@
 //! The passages that are measured: queries first, then messages a second apart, each pushing the oldest out once N are there; or, once N are there,
-//! departures alone.
+//! departures alone. Messages are of kind 1, as earlier archives take them too, but for those that rank by urgency.
 
 use fennelrake_tests::random::Random;
 use passage::Frame;
@@ -28,6 +28,16 @@ pub enum Departure {
     Cancel,
 }
 
+/// The urgency that a message says, by its turn.
+pub type Urgency = fn(u32) -> Option<u32>;
+
+/// None at all; or routine, important and vital, one after the other.
+pub const UNGRADED: Urgency = |_| None;
+pub const GRADED: Urgency = |turn| Some(turn % 3);
+
+/// The greatest count.
+const COUNT: u64 = 9;
+
 pub struct Passage {
     pub setting: Setting,
     pub life: u32,
@@ -45,13 +55,18 @@ fn rising(r: &mut Random, n: u64, terms: u64, most: u64) -> Vec<(u32, u32)> {
 impl Passage {
     /// With so many messages after those that fill the window.
     pub fn new(setting: Setting, messages: usize, seed: u64) -> Self {
-        Passage { setting, life: 65535, frames: Self::filling(setting, messages, &mut Random::new(seed)) }
+        Passage { setting, life: 65535, frames: Self::filling(setting, messages, COUNT, UNGRADED, &mut Random::new(seed)) }
+    }
+
+    /// The same with counts of 1 alone, so that many scores are equal.
+    pub fn tied(setting: Setting, messages: usize, urgency: Urgency, seed: u64) -> Self {
+        Passage { setting, life: 65535, frames: Self::filling(setting, messages, 1, urgency, &mut Random::new(seed)) }
     }
 
     /// With so many departures after the messages that fill the window, which for a seed are the same.
     pub fn departing(setting: Setting, departures: usize, by: Departure, seed: u64) -> Self {
         let mut r = Random::new(seed);
-        let mut frames = Self::filling(setting, 0, &mut r);
+        let mut frames = Self::filling(setting, 0, COUNT, UNGRADED, &mut r);
         let mut serials: Vec<u32> = (0..setting.capacity as u32).collect();
         for i in 0..departures {
             let time = (setting.capacity + 1 + i) as u32;
@@ -67,7 +82,7 @@ impl Passage {
         Passage { setting, life, frames }
     }
 
-    fn filling(setting: Setting, more: usize, r: &mut Random) -> Vec<Vec<u8>> {
+    fn filling(setting: Setting, more: usize, count: u64, urgency: Urgency, r: &mut Random) -> Vec<Vec<u8>> {
         let mut frames = Vec::new();
         for number in 0..setting.queries {
             let (k, n) = (1 + r.below(8) as usize, 1 + r.below(5));
@@ -75,7 +90,7 @@ impl Passage {
         }
         for i in 0..(setting.capacity + more) as u32 {
             let n = 4 + r.below(9);
-            frames.push(Frame::Message { time: i + 1, serial: i, pairs: rising(r, n, setting.terms, 9) }.bytes());
+            frames.push(Frame::Message { time: i + 1, serial: i, urgency: urgency(i), pairs: rising(r, n, setting.terms, count) }.bytes());
         }
         frames
     }

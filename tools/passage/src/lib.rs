@@ -4,7 +4,8 @@ pub mod text;
 
 #[derive(Debug, Clone, PartialEq, Eq)]
 pub enum Frame {
-    Message { time: u32, serial: u32, pairs: Vec<(u32, u32)> },
+    /// Of kind 1 where it has no urgency, else of kind 6: 0 is routine, 1 important, 2 vital.
+    Message { time: u32, serial: u32, urgency: Option<u32>, pairs: Vec<(u32, u32)> },
     Tick { time: u32 },
     Register { time: u32, number: usize, k: usize, terms: Vec<(u32, u32)> },
     Drop { time: u32, number: usize },
@@ -59,9 +60,12 @@ impl Frame {
             push(b, 32, time as u64);
         };
         match self {
-            Frame::Message { time, serial, pairs } => {
-                head(&mut b, 1, *time);
+            Frame::Message { time, serial, urgency, pairs } => {
+                head(&mut b, if urgency.is_some() { 6 } else { 1 }, *time);
                 push(&mut b, 20, *serial as u64);
+                if let Some(u) = urgency {
+                    push(&mut b, 2, *u as u64);
+                }
                 push(&mut b, 4, pairs.len() as u64 - 1);
                 for &(t, c) in pairs {
                     push(&mut b, 10, t as u64);
@@ -91,14 +95,15 @@ impl Frame {
         packed(&b)
     }
 
-    /// The frame that bytes are, or the first of 1 to 6 that applies.
+    /// The frame that bytes are, or the first of 1 to 4, 14, 5 and 6 that applies.
     pub fn read(bytes: &[u8]) -> Result<Frame, u32> {
         if bytes.len() < 5 {
             return Err(1);
         }
         let mut b = Bits { bytes, at: 0 };
         let (kind, time) = (b.take(4), b.take(32));
-        let pairs = |b: &mut Bits, n: usize, width: usize| -> Result<Vec<(u32, u32)>, u32> {
+        // the pairs that end a frame: taken with the fill after them, and then judged
+        let taken = |b: &mut Bits, n: usize, width: usize| -> Result<Vec<(u32, u32)>, u32> {
             let need = n * (10 + width);
             if b.left() < need || b.left() - need >= 8 {
                 return Err(3);
@@ -108,6 +113,9 @@ impl Frame {
             if b.take(fill) != 0 {
                 return Err(4);
             }
+            Ok(ps)
+        };
+        let judged = |ps: Vec<(u32, u32)>| -> Result<Vec<(u32, u32)>, u32> {
             if ps.iter().any(|p| p.1 == 0) {
                 return Err(5);
             }
@@ -117,34 +125,41 @@ impl Frame {
             Ok(ps)
         };
         match kind {
-            1 => {
-                if b.left() < 24 {
+            1 | 6 => {
+                let graded = kind == 6;
+                if b.left() < if graded { 26 } else { 24 } {
                     return Err(3);
                 }
-                let (serial, m) = (b.take(20), b.take(4) as usize + 1);
-                Ok(Frame::Message { time, serial, pairs: pairs(&mut b, m, 8)? })
+                let serial = b.take(20);
+                let urgency = graded.then(|| b.take(2));
+                let m = b.take(4) as usize + 1;
+                let ps = taken(&mut b, m, 8)?;
+                if urgency == Some(3) {
+                    return Err(14);
+                }
+                Ok(Frame::Message { time, serial, urgency, pairs: judged(ps)? })
             }
-            2 => pairs(&mut b, 0, 0).map(|_| Frame::Tick { time }),
+            2 => taken(&mut b, 0, 0).map(|_| Frame::Tick { time }),
             3 => {
                 if b.left() < 12 {
                     return Err(3);
                 }
                 let (number, k, n) = (b.take(5) as usize, b.take(4) as usize + 1, b.take(3) as usize + 1);
-                Ok(Frame::Register { time, number, k, terms: pairs(&mut b, n, 4)? })
+                Ok(Frame::Register { time, number, k, terms: judged(taken(&mut b, n, 4)?)? })
             }
             4 => {
                 if b.left() < 5 {
                     return Err(3);
                 }
                 let number = b.take(5) as usize;
-                pairs(&mut b, 0, 0).map(|_| Frame::Drop { time, number })
+                taken(&mut b, 0, 0).map(|_| Frame::Drop { time, number })
             }
             5 => {
                 if b.left() < 20 {
                     return Err(3);
                 }
                 let serial = b.take(20);
-                pairs(&mut b, 0, 0).map(|_| Frame::Cancel { time, serial })
+                taken(&mut b, 0, 0).map(|_| Frame::Cancel { time, serial })
             }
             _ => Err(2),
         }

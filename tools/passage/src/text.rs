@@ -1,18 +1,22 @@
 //! A passage as text, one line a frame:
 //!
 //! ```text
-//! engine 3 100                      N and T; the first line
-//! register 0 query 0 k 2 5:1 9:2    time, number, list length, term:weight ..
-//! message 20 serial 2 5:1 9:4       time, serial, term:count ..
+//! engine 3 100                            N and T; the first line
+//! register 0 query 0 k 2 5:1 9:2          time, number, list length, term:weight ..
+//! message 20 serial 2 5:1 9:4             time, serial, term:count ..: kind 1, which says no urgency
+//! message 30 serial 3 urgency vital 5:1   the same with an urgency, routine, important or vital: kind 6
 //! tick 120
 //! drop 130 query 0
-//! cancel 140 serial 2               time, and the serial of a message in force
-//! bytes 20 00 00 07 81              a frame of any bytes, in hexadecimal
+//! cancel 140 serial 2                     time, and the serial of a message in force
+//! bytes 20 00 00 07 81                    a frame of any bytes, in hexadecimal
 //! ```
 //!
 //! What follows a `#` and empty lines are left out.
 
 use crate::Frame;
+
+/// By their numbers in a frame.
+const URGENCIES: [&str; 3] = ["routine", "important", "vital"];
 
 /// A passage: N, T and the bytes of each frame.
 #[derive(Debug, PartialEq, Eq)]
@@ -86,6 +90,19 @@ fn serial(words: &mut std::slice::Iter<&str>) -> Result<u32, String> {
     Ok(number(words, "the serial", 0, 1_048_575)? as u32)
 }
 
+/// The urgency of a message, where the next word says that there is one.
+fn urgency(words: &mut std::slice::Iter<&str>) -> Result<Option<u32>, String> {
+    if words.as_slice().first() != Some(&"urgency") {
+        return Ok(None);
+    }
+    words.next();
+    let word = words.next().ok_or("the urgency is missing")?;
+    match URGENCIES.iter().position(|u| u == word) {
+        Some(u) => Ok(Some(u as u32)),
+        None => Err(format!("the urgency must be routine, important or vital, and is {}", shown(word))),
+    }
+}
+
 fn byte(word: &str) -> Result<u8, String> {
     if word.len() == 2 && word.bytes().all(|b| b.is_ascii_hexdigit()) {
         Ok(u8::from_str_radix(word, 16).unwrap())
@@ -106,8 +123,8 @@ fn frame(words: &[&str]) -> Result<Vec<u8>, String> {
     let time = number(&mut w, "the time", 0, u32::MAX as u64)? as u32;
     let f = match kind {
         "message" => {
-            let serial = serial(&mut w)?;
-            Frame::Message { time, serial, pairs: pairs(&mut w, 16, "count", 255)? }
+            let (serial, urgency) = (serial(&mut w)?, urgency(&mut w)?);
+            Frame::Message { time, serial, urgency, pairs: pairs(&mut w, 16, "count", 255)? }
         }
         "tick" => Frame::Tick { time },
         "register" => {
@@ -214,7 +231,10 @@ impl Passage {
 fn line(f: &Frame) -> String {
     let pairs = |ps: &[(u32, u32)]| ps.iter().fold(String::new(), |s, p| s + &format!(" {}:{}", p.0, p.1));
     match f {
-        Frame::Message { time, serial, pairs: ps } => format!("message {time} serial {serial}{}", pairs(ps)),
+        Frame::Message { time, serial, urgency, pairs: ps } => {
+            let urgency = urgency.map_or(String::new(), |u| format!(" urgency {}", URGENCIES[u as usize]));
+            format!("message {time} serial {serial}{urgency}{}", pairs(ps))
+        }
         Frame::Tick { time } => format!("tick {time}"),
         Frame::Register { time, number, k, terms } => format!("register {time} query {number} k {k}{}", pairs(terms)),
         Frame::Drop { time, number } => format!("drop {time} query {number}"),

@@ -83,6 +83,15 @@ fn frames() {
             "message 10 serial 1 0:1 1:1 2:1 3:1 4:1 5:1 6:1 7:1 8:1 9:1 10:1 11:1 12:1 13:1 14:1 15:1 16:1",
             "1 to 16 pairs are expected, and there are 17",
         ),
+        ("message 10 serial 1 urgency", "the urgency is missing"),
+        ("message 10 serial 1 urgency 2 5:1", "the urgency must be routine, important or vital, and is '2'"),
+        ("message 10 serial 1 urgency 5:1", "the urgency must be routine, important or vital, and is '5:1'"),
+        ("message 10 serial 1 urgency Vital 5:1", "the urgency must be routine, important or vital, and is 'Vital'"),
+        ("message 10 serial 1 urgency vital", "1 to 16 pairs are expected, and there are 0"),
+        ("message 10 serial 1 urgency vital important 5:1", "a pair term:count is expected, and there is 'important'"),
+        ("message 10 serial 1 vital 5:1", "a pair term:count is expected, and there is 'vital'"),
+        ("message 10 serial 1 5:1 urgency vital", "a pair term:count is expected, and there is 'urgency'"),
+        ("message 10 urgency vital serial 1 5:1", "'serial' is expected, and there is 'urgency'"),
         ("register 0 k 2 5:1", "'query' is expected, and there is 'k'"),
         ("register 0 query 32 k 2 5:1", "the query must be a number from 0 to 31, and is '32'"),
         ("register 0 query 0 5:1", "'k' is expected, and there is '5:1'"),
@@ -115,9 +124,9 @@ fn frames() {
 fn good_texts() {
     // each kind at the end of its ranges; lines ended in both ways; the last one not ended
     let text = "# a passage\r\nengine 256 65535 # N and T\r\n\n  register 0 query 31 k 16 0:1 1023:15\nmessage 7 serial 1048575 0:255#\n\
-                tick 4294967295\nbytes 20 00 00 07 81\nbytes\ncancel 4294967295 serial 1048575\ndrop 4294967295 query 31";
+                message 7 serial 0 urgency  vital\t0:255 1:1\ntick 4294967295\nbytes 20 00 00 07 81\nbytes\ncancel 4294967295 serial 1048575\ndrop 4294967295 query 31";
     let plain = "engine 256 65535\nregister 0 query 31 k 16 0:1 1023:15\nmessage 7 serial 1048575 0:255\n\
-                 tick 4294967295\nbytes 20 00 00 07 81\nbytes\ncancel 4294967295 serial 1048575\ndrop 4294967295 query 31\n";
+                 message 7 serial 0 urgency vital 0:255 1:1\ntick 4294967295\nbytes 20 00 00 07 81\nbytes\ncancel 4294967295 serial 1048575\ndrop 4294967295 query 31\n";
     let input = run(&[], text.as_bytes());
     assert_eq!((input.status, input.said.as_str()), (0, ""));
     assert_eq!(input.output[..4], [255, 255, 255, 10]);
@@ -127,6 +136,25 @@ fn good_texts() {
     assert_eq!((back.status, back.said.as_str()), (0, ""));
     assert_eq!(String::from_utf8(back.output).unwrap(), plain);
     assert_eq!(run(&[], plain.as_bytes()).output, input.output);
+}
+
+/// A message that says no urgency and a routine one are two frames, and each comes back as it was. Urgency 3 isn't one that a text can say.
+#[test]
+fn urgencies() {
+    let text = "engine 3 100\nmessage 10 serial 1 5:1\nmessage 10 serial 1 urgency routine 5:1\nmessage 30 serial 3 urgency important 5:1\n\
+                message 10 serial 1 urgency vital 5:1\nbytes 60 00 00 00 a0 00 01 c0 05 01\n";
+    let input = run(&[], text.as_bytes());
+    assert_eq!((input.status, input.said.as_str()), (0, ""));
+    let frames = [
+        [0x10, 0, 0, 0, 0xa0, 0, 1, 0, 0x14, 4],
+        [0x60, 0, 0, 0, 0xa0, 0, 1, 0, 5, 1],
+        [0x60, 0, 0, 1, 0xe0, 0, 3, 0x40, 5, 1],
+        [0x60, 0, 0, 0, 0xa0, 0, 1, 0x80, 5, 1],
+        [0x60, 0, 0, 0, 0xa0, 0, 1, 0xc0, 5, 1],
+    ];
+    let want: Vec<u8> = [2, 0, 100].into_iter().chain(frames.iter().flat_map(|f| std::iter::once(10).chain(*f))).collect();
+    assert_eq!(input.output, want);
+    assert_eq!(String::from_utf8(run(&["--text"], &input.output).output).unwrap(), text);
 }
 
 #[test]

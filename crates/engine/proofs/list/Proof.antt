@@ -19,7 +19,8 @@ returns-3 c =
 
 returns-4 : tie.Need-returns-4
 returns-4 c =
-    list-right _ _ (omega arith) (omega arith) (c .before .before .in-use .ensures) (not-false _ (c .before .if3 .left)) (search needs)
+    list-right _ _ (omega arith) (omega arith) (c .before .before .before .in-use .ensures) (not-false _ (c .before .before .if3 .left)) (search needs)
+    (c .of .ensures)
 
 pub list-spec : {M : Type 1} → statement M
 list-spec =
@@ -32,5 +33,6 @@ list-spec =
     (λ c κs. search needs)
     (λ c κs. search needs)
     returns-3
+    (λ c κs. search needs)
     (λ c κs. search needs)
     returns-4)

@@ -7,14 +7,18 @@ use Rattle.engine.proofs.message.Statement.{statement}
 use Rattle.engine.proofs.message.Tie as tie
 
 returns : tie.Need-returns
-returns c = search late
+returns c = λ g e. search late
 
 returns-2 : tie.Need-returns-2
-returns-2 c = search known
+returns-2 c = λ g e. search known
+
+-- where the call began
+abbrev start-of : tie.After-roomy → tie.Start
+start-of r = r .before .before .before .before .before .before .before .before .before .before .before .before .before .before .before
 
 join-requires : tie.Need-join-requires
 join-requires c κs = (
-  (search needs, search needs),
+  (search needs, start-of (c .before) .pre .0 .1, start-of (c .before) .pre .1 .0 .1),
   (
     search needs,
     (
@@ -40,7 +44,7 @@ returns-3 c =
     let advanced = aged .advanced .ensures in
     let shorter = advanced .moved .count-most in
     let few = loaded .count-below in
-    message-done loaded (told .get .ensures) advanced (omega arith) (seen .has-serial .ensures) (unseen .if2 .left) capacity (room .roomy .ensures)
+    λ g e. message-done g e loaded (told .get .ensures) advanced (omega arith) (seen .has-serial .ensures) (unseen .if2 .left) capacity (room .roomy .ensures)
     (joined .join .ensures) (room-left capacity (room .roomy .ensures) (omega arith))
 
 pub message-spec : {M : Type 1} → statement M

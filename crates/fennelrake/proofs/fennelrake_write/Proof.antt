@@ -15,7 +15,7 @@ use Rattle.fennelrake.proofs.fennelrake_write.Tie as tie
 -- the fields that are handed over
 abbrev handed : tie.Start → Fields
 handed c =
-    fields (c .args .kind) (c .args .time) (c .args .serial) (c .args .number) (c .args .k) (c .args .pairs) (termsOf (now (c .args .terms)))
+    fields (c .args .kind) (c .args .time) (c .args .serial) (c .args .urgency) (c .args .number) (c .args .k) (c .args .pairs) (termsOf (now (c .args .terms)))
     (now (c .args .amounts))
 
 slice-aggregate-write : tie.Need-slice-aggregate-write

@@ -1,5 +1,5 @@
 -- `checked_pairs` meets its contract. Assumes nothing.
-use mathlib.Core.Path.{_≡_}
+use mathlib.Core.Path.{_≡_, refl}
 use Prim.Native.Nat.{_+_, _*_}
 use native.Mathlib.Omega.{arith}
 use lib.ListN.{length}
@@ -11,7 +11,7 @@ use Rattle.frame.proofs.checked_pairs.Tie as tie
 returns : tie.Need-returns
 returns c =
     let a = c .before .before .before .args in
-    checked-misfit (a .bytes .now) (a .head) (a .width) (a .m) _ (c .before .misfit .ensures) (λ z. omega arith)
+    checked-misfit (a .bytes .now) (a .head) (a .width) (a .m) (a .known) _ (c .before .misfit .ensures) (λ z. omega arith)
 
 take-pairs-requires : tie.Need-take-pairs-requires
 take-pairs-requires c κs =
@@ -21,10 +21,12 @@ take-pairs-requires c κs =
 
 returns-2 : tie.Need-returns-2
 returns-2 c =
-    let a = c .before .before .before .before .args in
-    checked-taken (a .bytes .now) (a .head) (a .width) (a .m) _ (omega arith) (c .take-pairs .ensures)
+    let g = c .before .before in
+    let p = g .before in
+    let a = p .before .before .before .before .args in
+    checked-taken (a .bytes .now) (a .head) (a .width) (a .m) (a .known) _ (p .take-pairs .result) (omega arith) (p .take-pairs .ensures) (g .grade-first .ensures) refl refl
 
 pub checked-pairs-spec : {M : Type 1} → statement M
 checked-pairs-spec =
     tie.close (tie.spec (λ c. omega arith) (λ c. omega arith) (λ c. omega arith) (λ c κs. omega arith) returns take-pairs-requires
-    returns-2)
+    (λ c κs. tt) returns-2)

@@ -11,10 +11,10 @@ use Rattle.query.proofs.change.Statement.{statement}
 use Rattle.query.proofs.change.Tie as tie
 
 sixteen : (c : tie.After-load-list) → Sixteen (c .load-list .result)
-sixteen c = record { most = c .load-list .ensures .count-most; serials = search (needs, length-unmapped); scores = search (needs, length-unmapped) }
+sixteen c = record { most = c .load-list .ensures .count-most; serials = search (needs, length-unmapped); keys = search (needs, length-unmapped) }
 
 sixteen-next : (c : tie.After-with-newest) → Sixteen (c .with-newest .result)
-sixteen-next c = record { most = c .with-newest .ensures .within; serials = search (needs, length-unmapped); scores = search (needs, length-unmapped) }
+sixteen-next c = record { most = c .with-newest .ensures .within; serials = search (needs, length-unmapped); keys = search (needs, length-unmapped) }
 
 -- whether a full list has lost its last place
 kept-full : {had has k : ℕ} {b : Bool} → b ≡ (eqb had k && not (eqb has k)) → b ≡ false → had ≡ k → has ≡ k

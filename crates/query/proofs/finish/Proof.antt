@@ -8,7 +8,7 @@ use Rattle.query.proofs.finish.Statement.{statement}
 use Rattle.query.proofs.finish.Tie as tie
 
 sixteen : (c : tie.Start) → Sixteen (c .args .list)
-sixteen c = record { most = omega arith; serials = search (needs, length-unmapped); scores = search (needs, length-unmapped) }
+sixteen c = record { most = omega arith; serials = search (needs, length-unmapped); keys = search (needs, length-unmapped) }
 
 eight : (c : tie.Start) → length (c .args .raised) ≡ 8
 eight c = search (needs, length-unmapped)

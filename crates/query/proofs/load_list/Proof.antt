@@ -11,7 +11,7 @@ returns c =
       count-most = omega arith;
       count-is = λ h. omega (arith, c .clamped .ensures .is (omega arith) (omega arith));
       serials = c .before .before .before .load16 .ensures;
-      scores = c .before .before .load162 .ensures;
+      keys = c .before .before .load162 .ensures;
     }
 
 pub load-list-spec : {M : Type 1} → statement M

@@ -9,7 +9,7 @@ use Rattle.query.proofs.retune.Statement.{statement}
 use Rattle.query.proofs.retune.Tie as tie
 
 sixteen : (c : tie.Start) → Sixteen (c .args .list)
-sixteen c = record { most = omega arith; serials = search (needs, length-unmapped); scores = search (needs, length-unmapped) }
+sixteen c = record { most = omega arith; serials = search (needs, length-unmapped); keys = search (needs, length-unmapped) }
 
 eight : (c : tie.Start) → length (c .args .thresholds) ≡ 8
 eight c = search (needs, length-unmapped)

@@ -23,7 +23,7 @@ sixteen : (c : tie.After-ranked-rows) → Sixteen (c .ranked-rows .result)
 sixteen c = record {
   most = omega (arith, c .ranked-rows .ensures .within, start-of c .pre .1 .1 .0 .k-most);
   serials = search (needs, length-unmapped);
-  scores = search (needs, length-unmapped);
+  keys = search (needs, length-unmapped);
 }
 
 eight : (c : tie.Start) → length (c .args .thresholds) ≡ 8

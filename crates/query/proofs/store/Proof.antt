@@ -7,14 +7,14 @@ use Rattle.query.proofs.store.Tie as tie
 returns : tie.Need-returns
 returns c =
     let nine = c .before .before in
-    let scores = nine .before .before .before .before in
-    let serials = scores .before .before .before .before in
+    let keys = nine .before .before .before .before in
+    let serials = keys .before .before .before .before in
     let eight = serials .before .before .before .before in
     let one = eight .before .before .before .before in
     let start = one .before .before .before .before .before in
     let a = start .args in
     stored-kept (a .q) (a .list) (a .state .now) (one .put .last .0) (start .pre .0 .0) (start .pre .0 .1) (start .pre .1) (one .put .ensures) (eight .store8 .ensures)
-    (serials .store16 .ensures) (scores .store162 .ensures) (nine .store9 .ensures)
+    (serials .store16 .ensures) (keys .store162 .ensures) (nine .store9 .ensures)
 
 pub store-spec : {M : Type 1} → statement M
 store-spec =

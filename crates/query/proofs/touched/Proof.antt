@@ -63,6 +63,7 @@ returns c =
       goes = rw (← e) (l .loop .inv .2);
       came = rw (← e) (l .loop .inv .3 .0);
       went = rw (← e) (l .loop .inv .4 .0);
+      small = omega (arith, l .loop .inv .3 .1, n .clamped .ensures .at-most);
     }
 
 pub touched-spec : {M : Type 1} → statement M

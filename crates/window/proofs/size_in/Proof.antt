@@ -1,7 +1,5 @@
 -- `size_in` meets its contract. Assumes nothing.
-use native.Mathlib.Nat.{min-eq-left, min-eq-right}
 use native.Mathlib.Omega.{arith}
-use mathlib.Core.Path.{sym, _∙_}
 use borrow.Author.Needs.{needs}
 use Rattle.window.proofs.size_in.Statement.{statement}
 use Rattle.window.proofs.size_in.Tie as tie
@@ -15,5 +13,5 @@ size-in-spec =
     (λ c. search needs)
     (λ c κs. search needs)
     (λ c. search needs)
-    (λ c. let e = c .before .get .ensures in e ∙ sym (min-eq-left (omega arith)))
-    (λ c. let e = c .before .get .ensures in sym (min-eq-right (omega arith))))
+    (λ c. omega (arith, c .before .get .ensures))
+    (λ c. omega (arith, c .before .get .ensures)))
