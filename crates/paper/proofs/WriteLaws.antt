@@ -8,7 +8,7 @@ use mathlib.Core.Bool.{Bool, true, false, _&&_}
 use mathlib.Core.Logic.{_⊎_, inl, inr}
 use mathlib.Core.List.{List, [], _∷_, map}
 use lib.ListN.{length, length-map}
-use lib.Dec.{ltb, lit≤}
+use lib.Dec.{leb, ltb, lit≤}
 use borrow.Author.Tests.{ltb-true, leb-true, lt-ltb, le-leb}
 use Rattle.paper.specs.Frame.{Pair, Frame, Fields, Row, Pairs, AllFit, Valid, level, urgencyOf, noRow, rowOf, messageRow, tickRow, registerRow, unregisterRow}
 use Rattle.paper.specs.Frame.{cancelRow, gradedRow, frameOf, gradesKnown, judged, writtenBy, countWidth, weightWidth, mostPairs, mostTerms, encode, shape, positive, rises, rising}
@@ -179,9 +179,32 @@ pub record Beside (ts us : List ℕ) (ps : List Pair) : Type 0 where
   pub amounts : length ps ≤ length us
   pub are : side-by-side (length ps) ts us ≡ ps
 
+-- they are within their range
+given : {w most : ℕ} {ts us : List ℕ} {ps : List Pair} → Pairs w most ps → Beside ts us ps
+    → (leb (length ps) (length ts) && leb (length ps) (length us) && allWithin w (side-by-side (length ps) ts us)) ≡ true
+given {w} {ts = ts} {us} {ps} p b =
+    rw (
+      le-leb (length ps) (length ts) (b .terms),
+      le-leb (length ps) (length us) (b .amounts),
+      b .are,
+      fit-within w ps (p .fit) (p .above-zero),
+    )
+
 -- a valid frame comes from its fields, whatever stands in the lists past its pairs
 pub fields-with : (f : Frame) (ts us : List ℕ) → Valid f → Beside ts us (pairsIn f) → fromFields (fieldsWith f ts us) ≡ accepted f
 unfolding fromKind rowOf frameOf headWithin rises allWithin side-by-side gradesKnown
+fields-with (message t s ungraded ps) ts us v b =
+    let p = v .pairs in
+    let m : ℕ = length ps in
+    rw (
+      lt-ltb t (2 ^ 32) (v .time),
+      lt-ltb s (2 ^ 20) (v .serial),
+      lt-ltb 0 m (p .least-one),
+      le-leb m mostPairs (p .at-most),
+      given p b,
+      b .are,
+      p .in-order,
+    )
 fields-with (message t s (graded u) ps) ts us v b =
     let p = v .pairs in
     let m : ℕ = length ps in
@@ -193,26 +216,10 @@ fields-with (message t s (graded u) ps) ts us v b =
       lt-ltb (level u) (2 ^ 2) (omega arith),
       lt-ltb 0 m (p .least-one),
       le-leb m mostPairs (p .at-most),
-      le-leb m (length ts) (b .terms),
-      le-leb m (length us) (b .amounts),
+      given p b,
       b .are,
-      fit-within countWidth ps (p .fit) (p .above-zero),
       p .in-order,
       of-level u,
-    )
-fields-with (message t s ungraded ps) ts us v b =
-    let p = v .pairs in
-    let m : ℕ = length ps in
-    rw (
-      lt-ltb t (2 ^ 32) (v .time),
-      lt-ltb s (2 ^ 20) (v .serial),
-      lt-ltb 0 m (p .least-one),
-      le-leb m mostPairs (p .at-most),
-      le-leb m (length ts) (b .terms),
-      le-leb m (length us) (b .amounts),
-      b .are,
-      fit-within countWidth ps (p .fit) (p .above-zero),
-      p .in-order,
     )
 fields-with (tick t) ts us v b = rw (lt-ltb t (2 ^ 32) v, le-leb 0 (length ts) (b .terms), le-leb 0 (length us) (b .amounts))
 fields-with (register t n k ps) ts us v b =
@@ -226,10 +233,8 @@ fields-with (register t n k ps) ts us v b =
       le-leb k (2 ^ 4) (v .k-most),
       lt-ltb 0 m (p .least-one),
       le-leb m mostTerms (p .at-most),
-      le-leb m (length ts) (b .terms),
-      le-leb m (length us) (b .amounts),
+      given p b,
       b .are,
-      fit-within weightWidth ps (p .fit) (p .above-zero),
       p .in-order,
       e,
     )
