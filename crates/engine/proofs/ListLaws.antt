@@ -15,8 +15,8 @@ use Rattle.paper.specs.Log.{Log, queryAt, inUse, judgeList, seen}
 use Rattle.paper.specs.Log as Log
 use Rattle.memory.specs.Words.{words}
 use Rattle.rank.specs.declared.Ranked.{Ranked}
-use Rattle.rank.specs.declared.Shown.{Shown}
-use Rattle.rank.specs.Listing.{keyedOf, shown, linesOf, Tidy, TidyShown, Nothing, Shows}
+use Rattle.rank.specs.declared.Lines.{Lines}
+use Rattle.rank.specs.Listing.{keyedOf, shown, linesOf, Tidy, TidyLines, NoLine, Shows}
 use Rattle.query.specs.Record.{keys, HoldsAt, Holds}
 use Rattle.query.specs.Post.{LoadedList}
 use Rattle.engine.specs.Represents.{Represents, oldestOf, countOf}
@@ -24,7 +24,7 @@ use Rattle.engine.specs.Post.{ListPost}
 use Rattle.engine.proofs.RepresentsLaws.{used}
 
 module _ (s : List ℕ) (n : ℕ) where
-  pub list-not-lent : {l : Shown} → (length s ≡ stateLength → ⊥) → Nothing l → ListPost s n (record { number = 12; list = l })
+  pub list-not-lent : {l : Lines} → (length s ≡ stateLength → ⊥) → NoLine l → ListPost s n (record { number = 12; list = l })
   list-not-lent h e = record {
     not-lent = λ _. refl;
     no-number = λ long. absurd (h long);
@@ -47,7 +47,7 @@ module _ (s : List ℕ) (n : ℕ) where
     listed-some log q e = rw (judged log (ap inUse e), e) refl
 
     -- the log has no such query
-    pub list-unused : {l : Shown} → ((log : Log) → Represents log (words s) → inUse (queryAt log n) ≡ false) → Nothing l → ListPost s n (record { number = 10; list = l })
+    pub list-unused : {l : Lines} → ((log : Log) → Represents log (words s) → inUse (queryAt log n) ≡ false) → NoLine l → ListPost s n (record { number = 10; list = l })
     list-unused absent e = record {
       not-lent = λ h. absurd (h long);
       no-number = λ _ _. refl;
@@ -75,7 +75,7 @@ module _ (s : List ℕ) (n : ℕ) where
             record { serials = rw (c, p .serials) (k .no-serial); values = rw (c, p .keys) (k .no-key) },
           )
 
-      pub list-right : {l : Ranked} {x : Shown} → b ≡ true → LoadedList (words s) n l → Shows l x → ListPost s n (record { number = 0; list = x })
+      pub list-right : {l : Ranked} {x : Lines} → b ≡ true → LoadedList (words s) n l → Shows l x → ListPost s n (record { number = 0; list = x })
       list-right {l} {x} e p shows = record {
         not-lent = λ h. absurd (h long);
         no-number = λ _ k. absurd (omega arith);
@@ -86,6 +86,6 @@ module _ (s : List ℕ) (n : ℕ) where
         where
           go : (log : Log) (y : Option Query) → queryAt log n ≡ y → inUse (queryAt log n) ≡ true
               → HoldsAt (words s) n (oldestOf (words s)) (countOf (words s)) (seen log) y
-              → (0 ≡ judgeList 0 log (length s) 0 n) × (linesOf x ≡ Log.listed 0 log (length s) 0 n) × TidyShown x
+              → (0 ≡ judgeList 0 log (length s) 0 n) × (linesOf x ≡ Log.listed 0 log (length s) 0 n) × TidyLines x
           go log none is u k = absurd (true≢false (sym u ∙ ap inUse is))
           go log (some q) is u k = let t = held log q p k in (sym (judged log u), shows .list ∙ t .0 ∙ listed-some log q is, shows .tidy (t .1))

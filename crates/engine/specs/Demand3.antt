@@ -8,7 +8,7 @@ use Rattle.paper.specs.Log.{Log, Call, fresh, replay, judgeList, listed, judgeP
 use lib.ListN.{length}
 use Rattle.paper.specs.Demand3.{AllSettled, Answered}
 use Rattle.memory.specs.Words.{words}
-use Rattle.rank.specs.Listing.{linesOf, TidyShown}
+use Rattle.rank.specs.Listing.{linesOf, TidyLines}
 use Rattle.engine.specs.declared.Reply.{Reply}
 use Rattle.engine.specs.declared.Listing.{Listing}
 use Rattle.engine.specs.declared.Found.{Found}
@@ -35,7 +35,7 @@ pub record Demand3 (N T : ℕ) (s : List ℕ) (frames : List (List ℕ)) (s′ :
   pub settled : AllSettled (logOf N T s frames) (keeping (words s′))
   -- "as a reading returns it": serials, scores and number of entries, the unused ones 0, or 10 where the log has no such query
   pub readings : (n : ℕ) (r : Listing) → ListPost s′ n r
-      → (r .number ≡ judgeList 0 (logOf N T s frames) stateLength 0 n) × (linesOf (r .list) ≡ listed 0 (logOf N T s frames) stateLength 0 n) × TidyShown (r .list)
+      → (r .number ≡ judgeList 0 (logOf N T s frames) stateLength 0 n) × (linesOf (r .list) ≡ listed 0 (logOf N T s frames) stateLength 0 n) × TidyLines (r .list)
   -- "A posting reading .. returns how many there are and writes each one's serial and impact"; refused, it writes nothing
   pub postings : (t : ℕ) (out : List ℕ) (r : Found) (out′ : List ℕ) → PostingsPost s′ t out r out′
       → (r .number ≡ judgePostings (logOf N T s frames) stateLength (length out) t)

@@ -11,7 +11,7 @@ use Rattle.paper.specs.Log.{Log, Call, judgeStart, after, judgeList, listed, po
 use Rattle.paper.specs.Demand3.{replyTo, markedBy}
 use Rattle.paper.specs.Demand3 as Demand3
 use Rattle.memory.specs.Words.{words, putWord}
-use Rattle.rank.specs.Listing.{linesOf, TidyShown}
+use Rattle.rank.specs.Listing.{linesOf, TidyLines}
 use Rattle.posting.specs.Lines.{lineBytes}
 use Rattle.engine.specs.declared.Reply.{Reply}
 use Rattle.engine.specs.declared.Listing.{Listing}
@@ -68,9 +68,9 @@ pub record ListPost (s : List ℕ) (n : ℕ) (r : Listing) : Type 0 where
   pub not-lent : (length s ≡ stateLength → ⊥) → r .number ≡ 12
   pub no-number : length s ≡ stateLength → numbers ≤ n → r .number ≡ 10
   pub most : r .list .count ≤ mostListed
-  pub refused : (r .number ≡ 0 → ⊥) → (linesOf (r .list) ≡ []) × TidyShown (r .list)
+  pub refused : (r .number ≡ 0 → ⊥) → (linesOf (r .list) ≡ []) × TidyLines (r .list)
   pub right : (log : Log) → Represents log (words s) → length s ≡ stateLength
-      → (r .number ≡ judgeList 0 log (length s) 0 n) × (linesOf (r .list) ≡ listed 0 log (length s) 0 n) × TidyShown (r .list)
+      → (r .number ≡ judgeList 0 log (length s) 0 n) × (linesOf (r .list) ≡ listed 0 log (length s) 0 n) × TidyLines (r .list)
 
 -- the postings, and then what stood there before: "Output past what a call writes is unchanged."
 abbrev pub postedInto : Log → ℕ → List ℕ → List ℕ

@@ -20,7 +20,7 @@ use frame::Kind;
 use paper::MOST_PAIRS;
 use paper::layout;
 use query::Move;
-use rank::Shown;
+use rank::Lines;
 use window::Cursor;
 
 // How many query numbers and how many terms there are, beside numbers and terms of 32 bits.
@@ -39,7 +39,7 @@ pub struct Reply {
 
 pub struct Listing {
     pub number: u32,
-    pub list: Shown,
+    pub list: Lines,
 }
 
 pub struct Found {
@@ -441,25 +441,25 @@ pub fn list(state: &[u8], number: u32) -> Listing
     if state.len() != layout::STATE {
         return Listing {
             number: 12,
-            list: Shown::none(),
+            list: Lines::none(),
         };
     }
     if NUMBERS <= number {
         return Listing {
             number: 10,
-            list: Shown::none(),
+            list: Lines::none(),
         };
     }
     let q = number as usize;
     if !query::in_use(state, q) {
         return Listing {
             number: 10,
-            list: Shown::none(),
+            list: Lines::none(),
         };
     }
     Listing {
         number: 0,
-        list: Shown::of(query::load_list(state, q)),
+        list: Lines::of(query::load_list(state, q)),
     }
 }
 

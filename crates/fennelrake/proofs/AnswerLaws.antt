@@ -14,7 +14,7 @@ use Rattle.memory.specs.Words.{bigWords, putBig}
 use Rattle.memory.specs.Keeps.{Keeps, Stored}
 use Rattle.memory.proofs.WordLaws.{put-big, put-big-length, big-words-length, big-append}
 use Rattle.memory.proofs.KeepsLaws.{keeps-trans, keeps-wider, keeps-part, big-keeps}
-use Rattle.rank.specs.Listing.{listed, linesOf, TidyShown}
+use Rattle.rank.specs.Listing.{listed, linesOf, TidyLines}
 use Rattle.engine.specs.declared.Reply.{Reply}
 use Rattle.engine.specs.declared.Listing.{Listing}
 use Rattle.engine.specs.Post.{FramePost, ListPost}
@@ -90,7 +90,7 @@ zeros zero i = refl
 zeros (suc n) zero = refl
 zeros (suc n) (suc i) = zeros n i
 
-pub none-tidy : TidyShown noEntry
+pub none-tidy : TidyLines noEntry
 none-tidy = record { serials = λ i _. zeros mostListed i; values = λ i _. zeros mostListed i }
 
 none-listed : linesOf noEntry ≡ []

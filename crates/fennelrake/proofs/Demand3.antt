@@ -13,7 +13,7 @@ use Rattle.paper.specs.Demand3.{replyTo, markedBy, Answered}
 use Rattle.paper.proofs.MarkLaws.{answered-by-log}
 use Rattle.memory.specs.Words.{words}
 use Rattle.rank.specs.Listing as Listing
-use Rattle.rank.specs.Listing.{linesOf, TidyShown}
+use Rattle.rank.specs.Listing.{linesOf, TidyLines}
 use Rattle.engine.specs.Represents.{Represents, keeping}
 use Rattle.engine.specs.Post.{replyOf, StartPost}
 use Rattle.engine.proofs.RepresentsLaws.{all-settled}
@@ -90,7 +90,7 @@ module _ (log : Log) (s : List ℕ) (n : ℕ) (a a′ : List ℕ) (r : ℕ) (is 
   Heard =
       (r ≡ judgeList listAnswer log stateLength (length a) n)
       × (linesOf (heardListing r a′ .list) ≡ listed listAnswer log stateLength (length a) n)
-      × TidyShown (heardListing r a′ .list)
+      × TidyLines (heardListing r a′ .list)
 
   heard-enough : listAnswer ≤ length a → Heard
   heard-enough h =

@@ -8,7 +8,7 @@ use Rattle.paper.specs.Layout.{stateLength}
 use Rattle.paper.specs.Log.{Log, Call, fresh, replay, judgeList, listed, judgePostings, posted}
 use Rattle.paper.specs.Demand3.{AllSettled, Answered}
 use Rattle.memory.specs.Words.{words}
-use Rattle.rank.specs.Listing.{linesOf, TidyShown}
+use Rattle.rank.specs.Listing.{linesOf, TidyLines}
 use Rattle.engine.specs.Represents.{keeping}
 use Rattle.engine.specs.Post.{replyOf, postedInto, PostingsPost}
 use Rattle.fennelrake.specs.Entry.{frameAnswer, listAnswer, heardReply, heardListing, heardFound, FrameEntry, ListEntry}
@@ -33,7 +33,7 @@ pub record Demand3 (N T : ℕ) (s : List ℕ) (calls : List Call) (s′ : List �
   pub readings : (n : ℕ) (a a′ : List ℕ) (r : ℕ) → ListEntry s′ n a r a′
       → (r ≡ judgeList listAnswer (logOf N T calls) stateLength (length a) n)
       × (linesOf (heardListing r a′ .list) ≡ listed listAnswer (logOf N T calls) stateLength (length a) n)
-      × TidyShown (heardListing r a′ .list)
+      × TidyLines (heardListing r a′ .list)
   -- "A posting reading .. returns how many there are and writes each one's serial and impact"; refused, it writes nothing
   pub postings : (t : ℕ) (out : List ℕ) (r : ℕ) (out′ : List ℕ) → PostingsPost s′ t out (heardFound r) out′
       → (heardFound r .number ≡ judgePostings (logOf N T calls) stateLength (length out) t)

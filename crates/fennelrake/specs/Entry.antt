@@ -8,7 +8,7 @@ use lib.ListN.{length, getD, take, drop, replicate}
 use lib.Dec.{eqb}
 use Rattle.paper.specs.Frame.{mostListed}
 use Rattle.memory.specs.Words.{bigWords}
-use Rattle.rank.specs.declared.Shown.{Shown}
+use Rattle.rank.specs.declared.Lines.{Lines}
 use Rattle.frame.specs.declared.Written.{Written}
 use Rattle.engine.specs.declared.Reply.{Reply}
 use Rattle.engine.specs.declared.Listing.{Listing}
@@ -47,10 +47,10 @@ pub record FrameEntry (s bytes a : List ℕ) (r : ℕ) (s′ a′ : List ℕ) : 
 -- ---- list
 
 -- the number of entries is the first word of the answer, then the serials, then the scores; no entry with a refusal
-abbrev pub heardList : List ℕ → Shown
+abbrev pub heardList : List ℕ → Lines
 heardList w = record { serials = take mostListed (drop 1 w); scores = take mostListed (drop (1 + mostListed) w); count = getD w 0 0 }
 
-abbrev pub noEntry : Shown
+abbrev pub noEntry : Lines
 noEntry = record { serials = replicate mostListed 0; scores = replicate mostListed 0; count = 0 }
 
 abbrev pub heardListing : ℕ → List ℕ → Listing

@@ -2,7 +2,7 @@
 ghost use Prim.Native.Nat.{_+_, _≤_};
 ghost use lib.ListN.{length as Len};
 ghost use Rattle.session.specs.Text.{Put, decimal, field as Text·field, marksField, replyLine, entries as Text·entries, listLine};
-use rank::Shown;
+use rank::Lines;
 
 // The longest text of a frame: its line, and 32 lists of sixteen entries; a number has at most twenty digits.
 pub const MOST: usize = 22984;
@@ -81,7 +81,7 @@ fn entries(out: &mut [u8], at: usize, serials: [u32; 16], scores: [u32; 16], cou
 }
 
 // A query's line: its number, how many entries its list has, and serial and score of each.
-pub fn list(out: &mut [u8], at: usize, q: u32, list: Shown) -> usize
+pub fn list(out: &mut [u8], at: usize, q: u32, list: Lines) -> usize
     requires { ⌜ (list .count ≤ 16) × (at + 716 ≤ Len (now out)) ⌝ }
     ensures { λ r. ⌜ Put (listLine q (list .serials) (list .scores) (list .count)) at (now (out .entry)) r (now (out .exit)) ⌝ }
     ensures { λ r. ⌜ r ≤ at + 716 ⌝ }
