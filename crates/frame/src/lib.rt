@@ -206,15 +206,9 @@ fn checked_pairs(bytes: &[u8], head: usize, width: usize, m: usize, known: bool)
             amounts: [0u32; 16],
         };
     }
-    let p = take_pairs(bytes, head, width, m);
-    let number = grade_first(known, p.number);
-    let terms = p.terms;
-    let amounts = p.amounts;
-    PairList {
-        number,
-        terms,
-        amounts,
-    }
+    let mut p = take_pairs(bytes, head, width, m);
+    p.number = grade_first(known, p.number);
+    p
 }
 
 fn refusal(number: u32) -> Parsed

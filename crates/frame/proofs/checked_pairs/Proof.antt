@@ -21,10 +21,9 @@ take-pairs-requires c κs =
 
 returns-2 : tie.Need-returns-2
 returns-2 c =
-    let g = c .before .before in
-    let p = g .before in
+    let p = c .before in
     let a = p .before .before .before .before .args in
-    checked-taken (a .bytes .now) (a .head) (a .width) (a .m) (a .known) _ (p .take-pairs .result) (omega arith) (p .take-pairs .ensures) (g .grade-first .ensures) refl refl
+    checked-taken (a .bytes .now) (a .head) (a .width) (a .m) (a .known) _ (p .take-pairs .result) (omega arith) (p .take-pairs .ensures) (c .grade-first .ensures) refl refl
 
 pub checked-pairs-spec : {M : Type 1} → statement M
 checked-pairs-spec =
