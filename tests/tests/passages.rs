@@ -582,6 +582,13 @@ fn watched(capacity: u32, life: u32) -> Passage {
     p
 }
 
+/// An engine with T 100 and query 0, which lists the best k by term 5.
+fn listing(capacity: u32, k: usize) -> Passage {
+    let mut p = Passage::new(capacity, 100);
+    p.hand(&Frame::Register { time: 0, number: 0, k, terms: vec![(5, 1)] }.bytes());
+    p
+}
+
 fn listed(p: &Passage) -> Vec<u32> {
     engine::list(&p.state, 0).unwrap().iter().map(|e| e.0).collect()
 }
@@ -852,8 +859,7 @@ fn cancelled_in_a_full_window() {
 /// listed one but came earlier is above it, and with the listed one's going the next best is listed.
 #[test]
 fn cancelled_below_the_threshold() {
-    let mut p = Passage::new(8, 100);
-    p.hand(&Frame::Register { time: 0, number: 0, k: 1, terms: vec![(5, 1)] }.bytes());
+    let mut p = listing(8, 1);
     p.hand(&lower(10, 1, None));
     p.hand(&lower(10, 2, None));
     p.hand(&message(10, 3));
@@ -885,18 +891,11 @@ fn a_passage_with_urgencies() {
     ]);
 }
 
-/// An engine with N 3 and query 0, which lists the best two by term 5.
-fn two_listed() -> Passage {
-    let mut p = Passage::new(3, 100);
-    p.hand(&Frame::Register { time: 0, number: 0, k: 2, terms: vec![(5, 1)] }.bytes());
-    p
-}
-
 /// The vital one leaves with the frame that brings a routine one of the same score: the important one that wasn't listed takes the place. Then the
 /// most urgent has the lowest score, and an urgent one is cancelled.
 #[test]
 fn one_left_out_before_a_newcomer() {
-    let mut p = two_listed();
+    let mut p = listing(3, 2);
     p.hand(&graded(10, 1, VITAL));
     p.hand(&graded(20, 2, IMPORTANT));
     assert_eq!(done(&mut p, &graded(30, 3, IMPORTANT)), (0, 1, vec![1, 3]));
@@ -912,8 +911,7 @@ fn one_left_out_before_a_newcomer() {
 fn every_order_of_urgencies() {
     const KINDS: [Option<u32>; 4] = [None, ROUTINE, IMPORTANT, VITAL];
     for (order, k) in (0..4usize.pow(5)).flat_map(|order| [1, 2, 3].map(|k| (order, k))) {
-        let mut p = Passage::new(4, 100);
-        p.hand(&Frame::Register { time: 0, number: 0, k, terms: vec![(5, 1)] }.bytes());
+        let mut p = listing(4, k);
         for i in 0..5 {
             assert_eq!(p.hand(&graded(i, i, KINDS[order / 4usize.pow(i) % 4])).number, 0);
         }
@@ -927,7 +925,7 @@ fn every_order_of_urgencies() {
 /// The same messages in both kinds: not a byte of the state tells a routine one of kind 6 from one of kind 1.
 #[test]
 fn routine_in_both_kinds() {
-    let (mut plain, mut routine) = (two_listed(), two_listed());
+    let (mut plain, mut routine) = (listing(3, 2), listing(3, 2));
     for i in 0..300 {
         let (a, b) = (plain.hand(&graded(i, i, None)), routine.hand(&graded(i, i, ROUTINE)));
         assert_eq!(a, b);
@@ -938,7 +936,7 @@ fn routine_in_both_kinds() {
 /// The ring's slots are used again by messages of other urgencies, and a serial by its cancelled message's successor: no urgency stays behind.
 #[test]
 fn urgencies_of_slots_used_again() {
-    let mut p = two_listed();
+    let mut p = listing(3, 2);
     for i in 0..600 {
         let urgency = [VITAL, None, IMPORTANT, ROUTINE, VITAL, IMPORTANT, None][i as usize % 7];
         p.hand(&graded(i, i, urgency));
@@ -964,8 +962,7 @@ fn postings_whatever_the_urgency() {
 /// listed or not; one of a lower score is not, however urgent.
 #[test]
 fn marks_whatever_the_urgency() {
-    let mut p = Passage::new(8, 100);
-    p.hand(&Frame::Register { time: 0, number: 0, k: 1, terms: vec![(5, 1)] }.bytes());
+    let mut p = listing(8, 1);
     assert_eq!(done(&mut p, &graded(10, 1, IMPORTANT)), (0, 1, vec![1]));
     assert_eq!(done(&mut p, &graded(10, 2, ROUTINE)), (0, 1, vec![1]));
     assert_eq!(done(&mut p, &lower(10, 3, VITAL)), (0, 0, vec![1]));
