@@ -9,9 +9,10 @@
  *   ordinal, number, marks, departures      for each frame
  *   Q, query, entries, serial and score ..  after it, for each marked query that is still registered
  *
- * and one more after each frame, of what a training board shows beside the lists:
+ * and two more after each frame, of what a training board shows beside the lists:
  *
- *   P, term, postings, serial and impact .. for term 5
+ *   P, term, postings, serial and impact ..         for term 5
+ *   S, postings read, entries, serial and score ..  for a query that isn't registered, of terms 5 and 40
  */
 #include <fennelrake.h>
 
@@ -47,6 +48,9 @@ static const struct fields passage[] = {
     {FENNELRAKE_MESSAGE, 123, 6, 0, 0, 0, 2, {5, 9}, {1, 1}},
 };
 
+/* What a pilot asks for once, the best 2 messages: term 5 with weight 1, term 40 with weight 2. Time and number aren't looked at. */
+static const struct fields question = {FENNELRAKE_REGISTER, 0, 0, 0, 0, 2, 2, {5, 40}, {1, 2}};
+
 /* Writes a frame into out. Returns its length, or ends the program: fields that can't be written are a mistake in the table above. */
 static size_t write_frame(const struct fields *f, uint8_t *out, size_t out_length)
 {
@@ -65,18 +69,26 @@ static size_t write_frame(const struct fields *f, uint8_t *out, size_t out_lengt
     return fennelrake_size(written);
 }
 
+/* The rest of a line: the entries of a list, which a reading and a search lay out alike. */
+static void print_entries(const uint8_t *list)
+{
+    size_t i;
+
+    printf(" %u", fennelrake_list_count(list));
+    for (i = 0; i < fennelrake_list_count(list); i++)
+        printf(" %u %u", fennelrake_list_serial(list, i), fennelrake_list_score(list, i));
+    printf("\n");
+}
+
 static void print_list(const uint8_t *state, uint32_t query)
 {
     uint8_t list[FENNELRAKE_LIST_ANSWER_SIZE] = {0};
-    size_t i;
 
     /* a dropped query is marked too, and has no list: reading it is refused as 10 */
     if (fennelrake_list(state, FENNELRAKE_STATE_SIZE, query, list, sizeof list) != FENNELRAKE_ACCEPTED)
         return;
-    printf("Q %u %u", query, fennelrake_list_count(list));
-    for (i = 0; i < fennelrake_list_count(list); i++)
-        printf(" %u %u", fennelrake_list_serial(list, i), fennelrake_list_score(list, i));
-    printf("\n");
+    printf("Q %u", query);
+    print_entries(list);
 }
 
 static void print_postings(const uint8_t *state, uint32_t term)
@@ -90,6 +102,18 @@ static void print_postings(const uint8_t *state, uint32_t term)
     for (i = 0; i < fennelrake_size(found); i++)
         printf(" %u %u", fennelrake_posting_serial(out, i), fennelrake_posting_impact(out, i));
     printf("\n");
+}
+
+static void print_search(const uint8_t *state, const struct fields *query)
+{
+    uint8_t frame[FENNELRAKE_LONGEST_FRAME] = {0};
+    uint8_t found[FENNELRAKE_SEARCH_ANSWER_SIZE] = {0};
+    size_t length = write_frame(query, frame, sizeof frame);
+
+    /* a refusal finds nothing, by the first value of the answer */
+    fennelrake_search(state, FENNELRAKE_STATE_SIZE, frame, length, found, sizeof found);
+    printf("S %u", fennelrake_search_read(found));
+    print_entries(found);
 }
 
 int main(void)
@@ -122,6 +146,7 @@ int main(void)
             if (fennelrake_marked(answer, q))
                 print_list(state, q);
         print_postings(state, 5);
+        print_search(state, &question);
     }
     free(state);
     return 0;

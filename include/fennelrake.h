@@ -2,9 +2,9 @@
  * Fennelrake: the message ranker of a ship's docking display, for hosts written in C.
  *
  * The host lends memory. An engine in it takes frames (messages, cancellations of messages, clock ticks, registrations and drops of queries) and
- * keeps, for each registered query, the ranked list of the best messages in force. Nothing is allocated, no file is read or written, and the archive
- * keeps no memory of its own between calls: one memory is one engine. Forty boards are forty memories, and calls on different memories may run at
- * the same time.
+ * keeps, for each registered query, the ranked list of the best messages in force; a query that isn't worth registering is asked once, as a search.
+ * Nothing is allocated, no file is read or written, and the archive keeps no memory of its own between calls: one memory is one engine. Forty boards
+ * are forty memories, and calls on different memories may run at the same time.
  *
  * In every call a slice is a pointer to bytes and their number. It may stand at any address. Where the number is 0 the pointer may be null.
  * In what a call writes into lent output, a number takes four bytes, the most significant first; the readers at the end of this file take them out.
@@ -39,6 +39,7 @@ extern "C" {
 #define FENNELRAKE_STATE_SIZE 27232       /* the state memory: exactly so long */
 #define FENNELRAKE_FRAME_ANSWER_SIZE 8    /* what fennelrake_frame writes */
 #define FENNELRAKE_LIST_ANSWER_SIZE 132   /* what fennelrake_list writes */
+#define FENNELRAKE_SEARCH_ANSWER_SIZE 136 /* what fennelrake_search writes */
 #define FENNELRAKE_POSTING_SIZE 8         /* what fennelrake_postings writes for each posting */
 #define FENNELRAKE_MOST_POSTINGS 256      /* no term has more postings */
 #define FENNELRAKE_POSTINGS_SIZE 2048     /* enough for the postings of any term */
@@ -82,7 +83,7 @@ enum {
 enum {
     FENNELRAKE_ACCEPTED = 0,
     FENNELRAKE_REFUSED_SHORT = 1,         /* a frame of fewer than 5 bytes */
-    FENNELRAKE_REFUSED_KIND = 2,          /* the kind is none of the six */
+    FENNELRAKE_REFUSED_KIND = 2,          /* the kind is none of the six; in a search any but FENNELRAKE_REGISTER */
     FENNELRAKE_REFUSED_LENGTH = 3,        /* a frame longer or shorter than its fields need */
     FENNELRAKE_REFUSED_FILL = 4,          /* a bit after the frame's last field is one */
     FENNELRAKE_REFUSED_VALUE = 5,         /* a count or weight of 0; in writer and readings a value outside its range */
@@ -181,6 +182,29 @@ uint32_t fennelrake_list(const uint8_t *state, size_t state_length, uint32_t num
 uint64_t fennelrake_postings(const uint8_t *state, size_t state_length, uint32_t term, uint8_t *out, size_t out_length);
 
 /*
+ * Finds the list of a query that isn't registered: the one that registering it now would give. The query is that of a registration frame, whose time
+ * and number aren't looked at: the messages are those in force at the engine's clock, and a number in use is as good as any.
+ *
+ * Beside the list it tells how many postings are read for it, by this rule. The postings of the query's terms (as fennelrake_postings has them) are
+ * read one by one: always the next one with the highest weight times impact, and among equal ones that of the lower term. A message is seen once a
+ * posting of it is read. Before each posting the search ends if k messages have been seen and the k-th best score among them is strictly above the
+ * sum of weight times impact of the next postings, a term without any left giving 0. It ends too when no term has any left.
+ *
+ * Writes FENNELRAKE_SEARCH_ANSWER_SIZE bytes: what fennelrake_list writes, and then how many postings were read. The state isn't written.
+ *
+ * Refusals, in this order:
+ *   12  state_length is not FENNELRAKE_STATE_SIZE, or answer_length is below FENNELRAKE_SEARCH_ANSWER_SIZE
+ *    1  fewer than 5 bytes
+ *    2  a kind other than FENNELRAKE_REGISTER, whatever else is wrong with the frame
+ *    3  not as many bytes as the fields need, or too few to tell
+ *    4  a bit after the last field is one
+ *    5  a weight, of any pair, is 0
+ *    6  terms don't rise
+ */
+uint32_t fennelrake_search(const uint8_t *state, size_t state_length, const uint8_t *frame, size_t frame_length,
+                           uint8_t *answer, size_t answer_length);
+
+/*
  * Writes the frame with these fields into out. Only the fields of the kind are looked at:
  *   FENNELRAKE_MESSAGE         time, serial, pairs, terms, amounts (counts)
  *   FENNELRAKE_TICK            time
@@ -245,7 +269,8 @@ static inline uint32_t fennelrake_departures(const uint8_t *answer)
     return fennelrake_word(answer + 4);
 }
 
-/* The answer of fennelrake_list: how many entries there are; serial and score of entry i, the best being entry 0, for i below 16. */
+/* The answer of fennelrake_list or of fennelrake_search: how many entries there are; serial and score of entry i, the best being entry 0, for i
+   below 16. */
 static inline uint32_t fennelrake_list_count(const uint8_t *answer)
 {
     return fennelrake_word(answer);
@@ -259,6 +284,12 @@ static inline uint32_t fennelrake_list_serial(const uint8_t *answer, size_t i)
 static inline uint32_t fennelrake_list_score(const uint8_t *answer, size_t i)
 {
     return fennelrake_word(answer + 4 + 4 * FENNELRAKE_LIST_PLACES + 4 * i);
+}
+
+/* The answer of fennelrake_search: how many postings were read. */
+static inline uint32_t fennelrake_search_read(const uint8_t *answer)
+{
+    return fennelrake_word(answer + FENNELRAKE_LIST_ANSWER_SIZE);
 }
 
 /* The output of fennelrake_postings: serial and impact of posting i, the first being posting 0, for i below their number. */

@@ -45,7 +45,7 @@ enum { PLENTY = 20 };
 static uint8_t terms[2 * PLENTY], amounts[PLENTY];
 static uint32_t urgency = UINT32_MAX;
 
-static uint8_t *state, *frame, *reply, *list, *postings;
+static uint8_t *state, *frame, *reply, *list, *postings, *found;
 static size_t frame_length;
 
 /* Writes a frame with the terms, amounts and urgency above. Returns the writer's number. */
@@ -80,6 +80,22 @@ static uint32_t fed(uint32_t kind, uint32_t time, uint32_t serial, uint32_t numb
 {
     EXPECT(written(kind, time, serial, number, k, pairs), FENNELRAKE_ACCEPTED);
     return handed();
+}
+
+/* Searches with the frame written last: only the answer may change, and nothing by a refusal. */
+static uint32_t searched(void)
+{
+    uint8_t *before = lent(FENNELRAKE_STATE_SIZE);
+    uint32_t number;
+
+    memcpy(before, state, FENNELRAKE_STATE_SIZE);
+    memset(found, 0xa5, FENNELRAKE_SEARCH_ANSWER_SIZE);
+    number = fennelrake_search(state, FENNELRAKE_STATE_SIZE, frame, frame_length, found, FENNELRAKE_SEARCH_ANSWER_SIZE);
+    EXPECT(memcmp(before, state, FENNELRAKE_STATE_SIZE) == 0, 1);
+    if (number != FENNELRAKE_ACCEPTED)
+        EXPECT(untouched(found, FENNELRAKE_SEARCH_ANSWER_SIZE), 1);
+    free(before);
+    return number;
 }
 
 static void words(void)
@@ -318,6 +334,74 @@ static void urgencies(void)
     }
 }
 
+/* A message with terms 7 and 8, then three with term 7 alone, and searches for both terms; then every refusal of a search. */
+static void searches(void)
+{
+    uint32_t i, kind;
+
+    EXPECT(fennelrake_start(state, FENNELRAKE_STATE_SIZE, 4, 1000), FENNELRAKE_ACCEPTED);
+    fennelrake_put_term(terms, 0, 7);
+    fennelrake_put_term(terms, 1, 8);
+    amounts[0] = 1;
+    amounts[1] = 1;
+    for (i = 0; i < 4; i++)
+        EXPECT(fed(FENNELRAKE_MESSAGE, 100, FENNELRAKE_SERIALS - 1 - i, 0, 0, i == 0 ? 2 : 1), FENNELRAKE_ACCEPTED);
+    EXPECT(fed(FENNELRAKE_REGISTER, 100, 0, FENNELRAKE_QUERIES - 1, 1, 1), FENNELRAKE_ACCEPTED);
+
+    /* a time below the clock, and a number in use; term 8, of two times 707, is read first, and no message can do better than 3 times 707 */
+    amounts[1] = 2;
+    EXPECT(written(FENNELRAKE_REGISTER, 0, 0, FENNELRAKE_QUERIES - 1, 1, 2), FENNELRAKE_ACCEPTED);
+    EXPECT(searched(), FENNELRAKE_ACCEPTED);
+    EXPECT(fennelrake_list_count(found), 1);
+    EXPECT(fennelrake_list_serial(found, 0), FENNELRAKE_SERIALS - 1);
+    EXPECT(fennelrake_list_score(found, 0), 3 * 707);
+    for (i = 1; i < FENNELRAKE_LIST_PLACES; i++) {
+        EXPECT(fennelrake_list_serial(found, i), 0);
+        EXPECT(fennelrake_list_score(found, i), 0);
+    }
+    EXPECT(fennelrake_search_read(found), 1);
+
+    /* all that there are: a posting for each message, and one more for the first */
+    EXPECT(written(FENNELRAKE_REGISTER, UINT32_MAX, 0, 0, FENNELRAKE_LIST_PLACES, 2), FENNELRAKE_ACCEPTED);
+    EXPECT(searched(), FENNELRAKE_ACCEPTED);
+    EXPECT(fennelrake_list_count(found), 4);
+    for (i = 1; i < 4; i++) {
+        EXPECT(fennelrake_list_serial(found, i), FENNELRAKE_SERIALS - 1 - (4 - i));
+        EXPECT(fennelrake_list_score(found, i), FENNELRAKE_TOP_IMPACT);
+    }
+    EXPECT(fennelrake_search_read(found), 5);
+
+    memset(found, 0xa5, FENNELRAKE_SEARCH_ANSWER_SIZE);
+    EXPECT(fennelrake_search(state, FENNELRAKE_STATE_SIZE - 1, NULL, 0, found, FENNELRAKE_SEARCH_ANSWER_SIZE), FENNELRAKE_REFUSED_MEMORY);
+    EXPECT(fennelrake_search(state, FENNELRAKE_STATE_SIZE, NULL, 0, found, FENNELRAKE_SEARCH_ANSWER_SIZE - 1), FENNELRAKE_REFUSED_MEMORY);
+    EXPECT(fennelrake_search(NULL, 0, NULL, 0, NULL, 0), FENNELRAKE_REFUSED_MEMORY);
+    EXPECT(fennelrake_search(state, FENNELRAKE_STATE_SIZE, NULL, 0, found, FENNELRAKE_SEARCH_ANSWER_SIZE), FENNELRAKE_REFUSED_SHORT);
+    EXPECT(untouched(found, FENNELRAKE_SEARCH_ANSWER_SIZE), 1);
+    /* 76 bits: four fill the last byte, the second weight before them, and the first one ends with bit 61 */
+    EXPECT(frame_length, 10);
+    frame[9] |= 0x01;
+    EXPECT(searched(), FENNELRAKE_REFUSED_FILL);
+    frame_length = 9;
+    EXPECT(searched(), FENNELRAKE_REFUSED_LENGTH);
+    for (kind = 0; kind < 16; kind++) {
+        frame[0] = (uint8_t)(kind << 4);
+        EXPECT(searched(), kind == FENNELRAKE_REGISTER ? FENNELRAKE_REFUSED_LENGTH : FENNELRAKE_REFUSED_KIND);
+    }
+    fennelrake_put_term(terms, 1, 9);
+    for (kind = FENNELRAKE_MESSAGE; kind <= FENNELRAKE_URGENT_MESSAGE; kind++) {
+        EXPECT(written(kind, 100, 1, 1, 1, 2), FENNELRAKE_ACCEPTED);
+        EXPECT(searched(), kind == FENNELRAKE_REGISTER ? FENNELRAKE_ACCEPTED : FENNELRAKE_REFUSED_KIND);
+    }
+    EXPECT(written(FENNELRAKE_REGISTER, 100, 0, 1, 1, 2), FENNELRAKE_ACCEPTED);
+    frame[9] = 0;
+    EXPECT(searched(), FENNELRAKE_REFUSED_VALUE);
+    frame[9] = 0x10;
+    frame[8] = 0;
+    frame[7] = (uint8_t)(frame[7] & ~0x03);
+    EXPECT(searched(), FENNELRAKE_REFUSED_ORDER);
+    amounts[1] = 1;
+}
+
 int main(void)
 {
     unsigned i;
@@ -331,6 +415,7 @@ int main(void)
     reply = lent(FENNELRAKE_FRAME_ANSWER_SIZE);
     list = lent(FENNELRAKE_LIST_ANSWER_SIZE);
     postings = lent(FENNELRAKE_POSTINGS_SIZE);
+    found = lent(FENNELRAKE_SEARCH_ANSWER_SIZE);
     words();
     starting();
     lengths();
@@ -338,10 +423,12 @@ int main(void)
     writing();
     passage();
     urgencies();
+    searches();
     free(state);
     free(frame);
     free(reply);
     free(list);
     free(postings);
+    free(found);
     return failures == 0 ? 0 : 1;
 }

@@ -1,6 +1,7 @@
 /*
  * Two targets over the archive's entries: 'passage' takes a session's input (N less one, T, then frames after their lengths) and checks after each
- * frame all that the state memory tells by docs/STATE.md, without a reference; 'foreign' makes state memory that no sequence of calls left.
+ * frame all that the state memory tells by docs/STATE.md, without a reference; 'foreign' makes state memory that no sequence of calls left. In both
+ * each frame is asked as a search, too, and in 'passage' the last one that could be is asked again after every frame.
  *
  * The archive isn't instrumented. So each lent slice stands against a page that can't be touched, first with its end and in a second run with its
  * start (or up to three bytes on, for an odd address), and guard bytes are on its other side.
@@ -139,6 +140,27 @@ static uint64_t postings(uint32_t term, size_t room)
     guarded(&state);
     guarded(&answer);
     return r;
+}
+
+/* A search writes the answer alone, whatever memory it is given. */
+static uint32_t search(const uint8_t *bytes, size_t length, size_t room)
+{
+    static uint8_t was[FENNELRAKE_STATE_SIZE];
+    uint32_t number;
+    memcpy(was, state.bytes, state.length);
+    lend(&frame, length, 0);
+    if (length > 0)
+        memcpy(frame.bytes, bytes, length);
+    lend(&answer, room, FRESH);
+    number = fennelrake_search(state.bytes, state.length, frame.bytes, length, answer.bytes, room);
+    guarded(&state);
+    guarded(&frame);
+    guarded(&answer);
+    HOLD(memcmp(was, state.bytes, state.length) == 0);
+    HOLD(length == 0 || memcmp(frame.bytes, bytes, length) == 0);
+    HOLD(number <= FENNELRAKE_REFUSED_ORDER || number == FENNELRAKE_REFUSED_MEMORY);
+    HOLD(number == 0 || all_of(answer.bytes, room, FRESH));
+    return number;
 }
 
 /* ---- what the state memory keeps (docs/STATE.md) */
@@ -335,11 +357,43 @@ static void check_mark(const uint8_t *s, const uint8_t *f, uint32_t left, uint32
     }
 }
 
-/* A query's list, as a reading returns it, is the ranking of the messages in force. */
+/* The list in the answer is the ranking of the messages in force, for k, terms and weights as a record has them. Returns its number of entries. */
+static uint32_t check_ranking(const uint8_t *s, const uint8_t *r)
+{
+    uint32_t count = word(s, COUNT), entries = fennelrake_list_count(answer.bytes), positive = 0, i, j, last = 0, last_at = 0;
+
+    HOLD(entries <= word(r, K) && word(r, K) <= FENNELRAKE_LIST_PLACES);
+    for (i = 0; i < FENNELRAKE_LIST_PLACES; i++) {
+        uint32_t serial = fennelrake_list_serial(answer.bytes, i), value;
+        if (i >= entries) {
+            HOLD(serial == 0 && fennelrake_list_score(answer.bytes, i) == 0);
+            continue;
+        }
+        for (j = 0; j < count && word(message(s, j), SERIAL) != serial;)
+            j++;
+        HOLD(j < count && score(message(s, j), r) > 0 && fennelrake_list_score(answer.bytes, i) == score(message(s, j), r));
+        value = key(message(s, j), r);
+        HOLD(i == 0 || value < last || (value == last && j < last_at));
+        last = value;
+        last_at = j;
+    }
+    /* what isn't listed stands behind the last entry */
+    for (j = 0; j < count; j++) {
+        uint32_t scores = score(message(s, j), r) > 0, value = key(message(s, j), r), behind = value < last || (value == last && j < last_at);
+        positive += scores;
+        for (i = 0; i < entries && word(message(s, j), SERIAL) != fennelrake_list_serial(answer.bytes, i);)
+            i++;
+        HOLD(!scores || i < entries || (entries == word(r, K) && behind));
+    }
+    HOLD(entries == (positive < word(r, K) ? positive : word(r, K)));
+    return entries;
+}
+
+/* A query's list, as its record keeps it and a reading returns it. */
 static void check_list(const uint8_t *s, uint32_t q)
 {
     const uint8_t *r = record(s, q);
-    uint32_t count = word(s, COUNT), positive = 0, entries, i, j, last = 0, last_at = 0;
+    uint32_t i, j;
 
     if (word(r, K) == 0) {
         HOLD(all_of(r, 4 * RECORD, 0));
@@ -348,30 +402,13 @@ static void check_list(const uint8_t *s, uint32_t q)
         return;
     }
     HOLD(list(q, FENNELRAKE_LIST_ANSWER_SIZE) == FENNELRAKE_ACCEPTED);
-    entries = fennelrake_list_count(answer.bytes);
-    HOLD(entries == word(r, ENTRIES) && entries <= word(r, K) && word(r, K) <= FENNELRAKE_LIST_PLACES);
+    HOLD(check_ranking(s, r) == word(r, ENTRIES));
     for (i = 0; i < FENNELRAKE_LIST_PLACES; i++) {
         HOLD(fennelrake_list_serial(answer.bytes, i) == word(r, LISTED + i) && fennelrake_list_score(answer.bytes, i) == word(r, KEY + i) / 4);
-        if (i >= entries) {
-            HOLD(word(r, LISTED + i) == 0 && word(r, KEY + i) == 0);
-            continue;
-        }
-        for (j = 0; j < count && word(message(s, j), SERIAL) != word(r, LISTED + i);)
+        for (j = 0; j < word(s, COUNT) && word(message(s, j), SERIAL) != word(r, LISTED + i);)
             j++;
-        HOLD(j < count && word(r, KEY + i) == key(message(s, j), r) && score(message(s, j), r) > 0);
-        HOLD(i == 0 || word(r, KEY + i) < last || (word(r, KEY + i) == last && j < last_at));
-        last = word(r, KEY + i);
-        last_at = j;
+        HOLD(word(r, KEY + i) == (i < word(r, ENTRIES) ? key(message(s, j), r) : 0));
     }
-    /* what isn't listed stands behind the last entry */
-    for (j = 0; j < count; j++) {
-        uint32_t scores = score(message(s, j), r) > 0, value = key(message(s, j), r), behind = value < last || (value == last && j < last_at);
-        positive += scores;
-        for (i = 0; i < entries && word(message(s, j), SERIAL) != word(r, LISTED + i);)
-            i++;
-        HOLD(!scores || i < entries || (entries == word(r, K) && behind));
-    }
-    HOLD(entries == (positive < word(r, K) ? positive : word(r, K)));
 }
 
 /* The thresholds are as high as they may be, and the candidates are the messages above one. */
@@ -423,6 +460,104 @@ static void check_postings(const uint8_t *s, uint32_t term)
         HOLD(postings(term, FENNELRAKE_POSTING_SIZE * there - 1) == (uint64_t)FENNELRAKE_REFUSED_MEMORY << 32);
         HOLD(all_of(answer.bytes, answer.length, FRESH));
     }
+}
+
+/* The number that refuses bytes as a search; `whole` is what refuses them as a frame, or more than 6. */
+static uint32_t search_number(const uint8_t *f, size_t length, uint32_t whole)
+{
+    if (length < 5)
+        return FENNELRAKE_REFUSED_SHORT;
+    if (f[0] >> 4 != FENNELRAKE_REGISTER)
+        return FENNELRAKE_REFUSED_KIND;
+    return whole <= FENNELRAKE_REFUSED_ORDER ? whole : 0;
+}
+
+static void put_word(uint8_t *bytes, size_t i, uint32_t value)
+{
+    size_t j;
+    for (j = 0; j < 4; j++)
+        bytes[4 * i + j] = (uint8_t)(value >> 8 * j);
+}
+
+/* How many postings a search reads for k, terms and weights as a record has them: the rule step by step. */
+static uint32_t steps(const uint8_t *s, const uint8_t *r)
+{
+    static uint32_t left[FENNELRAKE_MOST_QUERY_TERMS][FENNELRAKE_MOST_POSTINGS]; /* the messages of each term's postings */
+    uint32_t size[FENNELRAKE_MOST_QUERY_TERMS] = {0}, next[FENNELRAKE_MOST_QUERY_TERMS] = {0}, taken = 0, i, j, at;
+    uint8_t was_seen[FENNELRAKE_MOST_MESSAGES] = {0};
+
+    for (i = 0; i < word(r, N); i++) {
+        uint32_t term = word(r, TERM + i) / 16;
+        /* from the oldest on, each before all of no higher impact */
+        for (j = 0; j < word(s, COUNT); j++) {
+            uint32_t w = impact(message(s, j), term);
+            if (w == 0)
+                continue;
+            for (at = size[i]++; at > 0 && impact(message(s, left[i][at - 1]), term) <= w; at--)
+                left[i][at] = left[i][at - 1];
+            left[i][at] = j;
+        }
+    }
+    for (;;) {
+        uint32_t sum = 0, highest = 0, of = 0, above = 0;
+        for (i = 0; i < word(r, N); i++) {
+            uint32_t w = next[i] < size[i] ? word(r, TERM + i) % 16 * impact(message(s, left[i][next[i]]), word(r, TERM + i) / 16) : 0;
+            sum += w;
+            if (w > highest) {
+                highest = w;
+                of = i;
+            }
+        }
+        /* the k-th best score is above the sum where k of the messages seen have such a one */
+        for (j = 0; j < word(s, COUNT); j++)
+            above += was_seen[j] && score(message(s, j), r) > sum;
+        if (above >= word(r, K) || highest == 0)
+            return taken;
+        was_seen[left[of][next[of]++]] = 1;
+        taken++;
+    }
+}
+
+/* A search by a frame that is a registration and that 1 to 6 let pass. */
+static void check_search(const uint8_t *s, const uint8_t *f, size_t length)
+{
+    uint8_t r[4 * RECORD] = {0};
+    uint32_t i, all = 0, taken, entries;
+
+    put_word(r, K, bits(f, 41, 4) + 1);
+    put_word(r, N, bits(f, 45, 3) + 1);
+    for (i = 0; i < word(r, N); i++)
+        put_word(r, TERM + i, bits(f, 48 + 14 * i, 14));
+    HOLD(search(f, length, FENNELRAKE_SEARCH_ANSWER_SIZE) == FENNELRAKE_ACCEPTED);
+    entries = check_ranking(s, r);
+    taken = fennelrake_search_read(answer.bytes);
+    HOLD(taken == steps(s, r));
+    for (i = 0; i < word(r, N) * word(s, COUNT); i++)
+        all += impact(message(s, i / word(r, N)), word(r, TERM + i % word(r, N)) / 16) > 0;
+    seen(10, taken);
+    seen(11, all - taken);
+    seen(12, entries * 16 + word(r, K) - 1);
+}
+
+/* The last frame of the run that could be asked as a search. */
+static uint8_t question[256];
+static size_t question_length;
+
+/* A frame as a search: one that can't be is refused as it should be. Then the last one that could be is asked. */
+static void check_searches(const uint8_t *s, const uint8_t *f, size_t length, uint32_t whole)
+{
+    uint32_t number = search(f, length, FENNELRAKE_SEARCH_ANSWER_SIZE + 3);
+
+    HOLD(number == search_number(f, length, whole));
+    HOLD(all_of(answer.bytes + FENNELRAKE_SEARCH_ANSWER_SIZE, 3, FRESH));
+    HOLD(search(f, length, FENNELRAKE_SEARCH_ANSWER_SIZE - 1) == FENNELRAKE_REFUSED_MEMORY);
+    seen(13, number);
+    if (number == 0) {
+        memcpy(question, f, length);
+        question_length = length;
+    }
+    if (question_length > 0)
+        check_search(s, question, question_length);
 }
 
 /* The writer makes the same bytes of the frame's fields, into exactly as many, whatever they held. */
@@ -548,6 +683,7 @@ static uint32_t checked_frame(const uint8_t *f, size_t length)
     seen(0, number * 16 + kind);
     if (number != 0) {
         HOLD(all_of(answer.bytes, answer.length, FRESH) && memcmp(old, state.bytes, state.length) == 0);
+        check_searches(old, f, length, number);
         check_any_fields(f, length);
         return digest(number, 0);
     }
@@ -563,6 +699,7 @@ static uint32_t checked_frame(const uint8_t *f, size_t length)
             seen(1, word(record(now, q), ENTRIES) * 32 + (marks >> q & 1) * 16 + word(record(now, q), K) - 1);
     }
     check_postings(now, word(now, COUNT) > 0 ? word(message(now, (uint32_t)ordinal % word(now, COUNT)), CELL) >> 22 : (uint32_t)ordinal % 1024);
+    check_searches(now, f, length, UINT32_MAX);
     check_writer(f, length);
     HOLD(list(beyond, FENNELRAKE_LIST_ANSWER_SIZE - 1) == FENNELRAKE_REFUSED_MEMORY && all_of(answer.bytes, answer.length, FRESH));
     HOLD(postings(FENNELRAKE_TERMS + (uint32_t)ordinal, 0) == (uint64_t)FENNELRAKE_REFUSED_VALUE << 32);
@@ -581,6 +718,7 @@ static uint32_t run(const uint8_t *data, size_t size)
     uint32_t d = 0, capacity, life, number;
 
     ordinal = 0;
+    question_length = 0;
     lend(&state, FENNELRAKE_STATE_SIZE, 0x5a);
     if (size < 3)
         return 0;
@@ -632,7 +770,7 @@ static void damage(int steering, const uint8_t *how)
 {
     static const uint32_t values[] = {0, 1, 8, 9, 15, 16, 17, 64, 80, 145, 192, 209, 255, 256, 257, 1000, 65535, 0xfffff, 0x100000, 0x1000000,
                                       0x1100000, 0x7fffffff, 0x80000000, 0xfffffffe, 0xffffffff};
-    uint32_t i = (how[0] * 256u + how[1]) % (FENNELRAKE_STATE_SIZE / 4), value = values[how[2] % (sizeof values / sizeof values[0])], j;
+    uint32_t i = (how[0] * 256u + how[1]) % (FENNELRAKE_STATE_SIZE / 4), value = values[how[2] % (sizeof values / sizeof values[0])];
 
     if (steering && how[0] < 64)
         i = how[0] % 5u;
@@ -640,8 +778,24 @@ static void damage(int steering, const uint8_t *how)
         i = SLOTS + SLOT * (how[1] % 257u) + how[0] % 4u;
     else if (steering)
         i = RECORDS + RECORD * (how[1] % 32u) + how[0] % 20u;
-    for (j = 0; j < 4; j++)
-        state.bytes[4 * i + j] = (uint8_t)(value >> 8 * j);
+    put_word(state.bytes, i, value);
+}
+
+/* A search for the term of the oldest slot's first cell and the one after it, so that there are postings. */
+static uint32_t search_there(uint32_t k)
+{
+    static const uint8_t weights[] = {3, 1};
+    uint8_t both[4] = {0}, bytes[FENNELRAKE_LONGEST_FRAME] = {0};
+    uint32_t term = word(slot(state.bytes, word(state.bytes, OLDEST) % PLACES), CELL) >> 22, pairs = term < FENNELRAKE_TERMS - 1 ? 2 : 1, entries;
+    uint64_t written;
+
+    fennelrake_put_term(both, 0, (uint16_t)term);
+    fennelrake_put_term(both, 1, (uint16_t)(term + 1));
+    written = fennelrake_write(FENNELRAKE_REGISTER, 0, 0, 0, 0, k, pairs, both, sizeof both, weights, sizeof weights, bytes, sizeof bytes);
+    HOLD(search(bytes, fennelrake_size(written), FENNELRAKE_SEARCH_ANSWER_SIZE) == FENNELRAKE_ACCEPTED);
+    entries = fennelrake_list_count(answer.bytes);
+    HOLD(entries <= k);
+    return entries;
 }
 
 /*
@@ -681,6 +835,8 @@ static void foreign_run(const uint8_t *data, size_t size)
         seen(5, list((uint32_t)ordinal % 33, FENNELRAKE_LIST_ANSWER_SIZE));
         seen(6, (uint32_t)(postings(word(slot(state.bytes, word(state.bytes, OLDEST) % PLACES), CELL) >> 22, FENNELRAKE_POSTINGS_SIZE) >> 32));
         seen(7, (uint32_t)(postings((uint32_t)ordinal, ordinal % 64) >> 32));
+        seen(14, search(data, length, FENNELRAKE_SEARCH_ANSWER_SIZE));
+        seen(15, search_there(1 + (uint32_t)ordinal % FENNELRAKE_LIST_PLACES));
         data += length;
         size -= length;
     }

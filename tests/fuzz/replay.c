@@ -37,11 +37,12 @@ static void put(uint32_t byte)
 static uint32_t sent[8]; /* serials of the messages put last */
 static size_t messages;
 static int alike; /* whether messages and queries have one and the same term, so that scores are equal */
+static int once;  /* whether all counts and weights are 1, so that terms of a search have equal postings to read next */
 
 /*
  * A frame after its length: few terms, serials and queries, so that much is shared; one in eight is damaged. As many cancel a message as send one,
  * mostly one of the last; some send one of these serials again. Half of the messages say an urgency, and a few of them one that there isn't, be the
- * first count 0 or not.
+ * first count 0 or not. A few registrations have a weight of 0, be there a bit in the fill or terms that don't rise or not.
  */
 static void put_frame(uint32_t *clock, uint32_t life)
 {
@@ -53,7 +54,7 @@ static void put_frame(uint32_t *clock, uint32_t life)
     most = is_message ? FENNELRAKE_MOST_PAIRS : FENNELRAKE_MOST_QUERY_TERMS;
     for (term = below(apart); pairs < most && term < 3 * apart; term += 1 + below(apart)) {
         fennelrake_put_term(terms, pairs, (uint16_t)(term < 3 * apart - 1 ? term : FENNELRAKE_TERMS - 1));
-        amounts[pairs++] = (uint8_t)(1 + (below(16) == 0 && is_message ? below(255) : below(4)));
+        amounts[pairs++] = (uint8_t)(once ? 1 : 1 + (below(16) == 0 && is_message ? below(255) : below(4)));
     }
     if (alike) {
         fennelrake_put_term(terms, 0, 0);
@@ -73,6 +74,12 @@ static void put_frame(uint32_t *clock, uint32_t life)
     if (kind == FENNELRAKE_URGENT_MESSAGE && below(16) == 0) {
         frame[7] |= 0xc0;
         frame[9] = (uint8_t)(frame[9] * below(2));
+    }
+    /* the first pair of a registration: its term's bits begin with byte 6, and its weight stands in byte 7 */
+    if (kind == FENNELRAKE_REGISTER && below(8) == 0) {
+        frame[7] &= 0xc3;
+        frame[6] |= (uint8_t)(below(2) * 0xff);
+        frame[length - 1] |= (uint8_t)below(2);
     }
     if (below(16) == 0) {
         i = below(8 * length);
@@ -134,6 +141,7 @@ static void make(int of_passage, uint32_t most, uint32_t seed, uint32_t i)
     memset(sent, 0, sizeof sent);
     messages = 0;
     alike = below(4) == 0;
+    once = below(4) == 0;
     (of_passage ? make_passage : make_foreign)(most);
 }
 

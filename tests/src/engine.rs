@@ -3,12 +3,14 @@
 pub const STATE: usize = 27232;
 pub const FRAME_ANSWER: usize = 8;
 pub const LIST_ANSWER: usize = 132;
+pub const SEARCH_ANSWER: usize = 136;
 
 extern "C" {
     fn fennelrake_start(state: *mut u8, state_len: usize, capacity: u32, life: u32) -> u32;
     fn fennelrake_frame(state: *mut u8, state_len: usize, bytes: *const u8, bytes_len: usize, answer: *mut u8, answer_len: usize) -> u32;
     fn fennelrake_list(state: *const u8, state_len: usize, number: u32, answer: *mut u8, answer_len: usize) -> u32;
     fn fennelrake_postings(state: *const u8, state_len: usize, term: u32, out: *mut u8, out_len: usize) -> u64;
+    fn fennelrake_search(state: *const u8, state_len: usize, frame: *const u8, frame_len: usize, answer: *mut u8, answer_len: usize) -> u32;
     #[allow(clippy::too_many_arguments)]
     fn fennelrake_write(
         kind: u32, time: u32, serial: u32, urgency: u32, number: u32, k: u32, pairs: u32,
@@ -109,6 +111,20 @@ pub mod raw {
         r
     }
 
+    /// Of any memory, too, a search writes the answer alone.
+    pub fn search(state: &Lent, bytes: &[u8], answer: &mut Lent) -> u32 {
+        let (mut copy, mut bytes) = (state.clone(), Lent::new(bytes));
+        let (before, n, k, m) = (bytes.clone(), copy.bytes().len(), bytes.bytes().len(), answer.bytes().len());
+        // SAFETY: as above
+        let r = unsafe { fennelrake_search(copy.at(), n, bytes.at(), k, answer.at(), m) };
+        copy.check();
+        answer.check();
+        bytes.check();
+        assert!(copy.bytes() == state.bytes(), "a search wrote in the state");
+        assert!(before.bytes() == bytes.bytes(), "a call wrote in the frame");
+        r
+    }
+
     pub fn write(f: &Fields, out: &mut Lent) -> u64 {
         let terms: Vec<u8> = f.terms.iter().flat_map(|t| t.to_be_bytes()).collect();
         let (mut terms, mut amounts) = (Lent::new(&terms), Lent::new(&f.amounts));
@@ -156,12 +172,17 @@ pub fn list(state: &Lent, number: u32) -> Result<Vec<(u32, u32)>, u32> {
     if r != 0 {
         return Err(r);
     }
+    Ok(entries(a))
+}
+
+/// Serial and score of each entry of a list's answer.
+fn entries(a: &[u8]) -> Vec<(u32, u32)> {
     let count = word(a, 0) as usize;
     assert!(count <= 16);
     for i in count..16 {
         assert_eq!((word(a, 1 + i), word(a, 17 + i)), (0, 0), "an unused place isn't 0");
     }
-    Ok((0..count).map(|i| (word(a, 1 + i), word(a, 17 + i))).collect())
+    (0..count).map(|i| (word(a, 1 + i), word(a, 17 + i))).collect()
 }
 
 pub fn list_into(state: &Lent, number: u32, answer: &mut Lent) -> u32 {
@@ -188,6 +209,27 @@ pub fn postings(state: &Lent, term: u32, room: usize) -> Result<Vec<(u32, u32)>,
         return Err(number);
     }
     Ok((0..count).map(|i| (word(out.bytes(), 2 * i), word(out.bytes(), 2 * i + 1))).collect())
+}
+
+/// The list that a search finds and the postings that it reads, or the number that refuses it.
+pub fn search(state: &Lent, bytes: &[u8]) -> Result<(Vec<(u32, u32)>, u32), u32> {
+    let mut answer = Lent::new(&[0xa5; SEARCH_ANSWER + 3]);
+    let r = search_into(state, bytes, &mut answer);
+    let a = answer.bytes();
+    assert_eq!(&a[SEARCH_ANSWER..], [0xa5; 3], "bytes past the answer changed");
+    if r != 0 {
+        return Err(r);
+    }
+    Ok((entries(a), word(a, 33)))
+}
+
+pub fn search_into(state: &Lent, bytes: &[u8], answer: &mut Lent) -> u32 {
+    let unanswered = answer.clone();
+    let r = raw::search(state, bytes, answer);
+    if r != 0 {
+        assert!(unanswered.bytes() == answer.bytes(), "a refusal wrote an answer");
+    }
+    r
 }
 
 /// The fields of a frame to write: any numbers.

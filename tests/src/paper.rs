@@ -1,6 +1,8 @@
-//! The paper log of the document and a full ranking after each frame. It shares no code with the engine and is written for plainness.
+//! The paper log of the document, a full ranking after each frame, and a search step by step. It shares no code with the engine and is written for
+//! plainness.
 
 pub use passage::Frame;
+use std::collections::VecDeque;
 
 pub const TOP: u64 = 1000;
 
@@ -54,6 +56,34 @@ fn ordered<'a>(ms: impl Iterator<Item = &'a Message>, value: impl Fn(&Message) -
     let mut all: Vec<(usize, &Message, u64)> = ms.enumerate().map(|(i, m)| (i, m, value(m))).filter(|e| e.2 > 0).collect();
     all.sort_by(|a, b| b.2.cmp(&a.2).then(second(b.1).cmp(&second(a.1))).then(b.0.cmp(&a.0)));
     all.into_iter().map(|(_, m, v)| (m.serial, v as u32)).collect()
+}
+
+// ---- a search
+
+/// What a search finds, and what it came by.
+#[derive(Debug)]
+pub struct Found {
+    pub list: Vec<(u32, u32)>,
+    /// Postings read, and postings of the query's terms that weren't.
+    pub read: u32,
+    pub left: u32,
+    /// k messages had been seen and the k-th best score was the sum of the next postings, so that the search went on.
+    pub equal: bool,
+    /// The next posting of two terms had the highest weight × impact.
+    pub tied: bool,
+    /// A posting was read of a message that had been seen.
+    pub again: bool,
+}
+
+/// The query that bytes ask a search for, or the first of 1 to 6 that applies; of every kind but 3 that is 2 at the latest.
+pub fn asked(bytes: &[u8]) -> Result<Query, u32> {
+    if bytes.len() >= 5 && bytes[0] / 16 != 3 {
+        return Err(2);
+    }
+    match Frame::read(bytes)? {
+        Frame::Register { k, terms, .. } => Ok(Query { k, terms }),
+        other => panic!("{other:?} is of kind 3"),
+    }
 }
 
 // ---- the log
@@ -131,9 +161,13 @@ impl Log {
         (departed, arrived)
     }
 
-    /// Among equal scores the more urgent stands first.
+    /// All messages of positive score; among equal scores the more urgent stands first.
+    fn ranked(&self, q: &Query) -> Vec<(u32, u32)> {
+        ordered(self.in_force().into_iter(), |m| m.score(q), |m| m.urgency)
+    }
+
     pub fn ranking(&self, q: &Query) -> Vec<(u32, u32)> {
-        let mut all = ordered(self.in_force().into_iter(), |m| m.score(q), |m| m.urgency);
+        let mut all = self.ranked(q);
         all.truncate(q.k);
         all
     }
@@ -141,5 +175,35 @@ impl Log {
     /// Among equal impacts the later stands first, whatever its urgency.
     pub fn postings(&self, term: u32) -> Vec<(u32, u32)> {
         ordered(self.in_force().into_iter(), |m| m.impact(term), |_| 0)
+    }
+
+    /// The search of the request, posting by posting; the list is that of the messages seen.
+    pub fn search(&self, q: &Query) -> Found {
+        // every message that has a term of the query, best first; whether it has been seen stands beside it
+        let mut ranked: Vec<(u32, u32, bool)> = self.ranked(q).into_iter().map(|(serial, score)| (serial, score, false)).collect();
+        let mut left: Vec<VecDeque<(u32, u32)>> = q.terms.iter().map(|&(term, _)| self.postings(term).into()).collect();
+        let mut found = Found { list: Vec::new(), read: 0, left: 0, equal: false, tied: false, again: false };
+        loop {
+            // weight × impact of each term's next posting; an exhausted term gives 0
+            let next: Vec<u32> = q.terms.iter().zip(&left).map(|(&(_, weight), l)| l.front().map_or(0, |&(_, impact)| weight * impact)).collect();
+            let sum: u32 = next.iter().sum();
+            let kth = ranked.iter().filter(|m| m.2).nth(q.k - 1).map(|m| m.1);
+            if kth.is_some_and(|score| score > sum) || left.iter().all(|l| l.is_empty()) {
+                break;
+            }
+            found.equal |= kth == Some(sum);
+            let highest = *next.iter().max().expect("a query has a term");
+            found.tied |= next.iter().filter(|v| **v == highest).count() > 1;
+            // the first, which is the lowest term's; no posting has impact 0
+            let at = next.iter().position(|v| *v == highest).expect("the highest is one of them");
+            let (serial, _) = left[at].pop_front().expect("a term with a product has a posting");
+            let message = ranked.iter_mut().find(|m| m.0 == serial).expect("a posting is of a message in force that has the term");
+            found.again |= message.2;
+            message.2 = true;
+            found.read += 1;
+        }
+        found.list = ranked.iter().filter(|m| m.2).take(q.k).map(|m| (m.0, m.1)).collect();
+        found.left = left.iter().map(|l| l.len() as u32).sum();
+        found
     }
 }

@@ -242,6 +242,38 @@ impl Source {
     }
 }
 
+/// A search of a passage that the log has taken in so far, as the bytes of a register frame: for any terms, or for some of a message in force too.
+/// Weights are mostly low, so that many products are equal. Time and number are any. Some are made to be refused.
+pub fn question(r: &mut Random, log: &Log, style: &Style) -> Vec<u8> {
+    let most = [1, 3, 15][r.below(3) as usize];
+    let mut terms = rising(r, 8, style.terms, most);
+    if let Some(i) = picked(r, log.in_force_at(log.clock)).filter(|_| !r.one_in(3)) {
+        for &(term, _) in &log.messages[i].pairs {
+            if terms.len() < 8 && r.one_in(2) && terms.iter().all(|t| t.0 != term) {
+                terms.push((term, 1 + r.below(3) as u32));
+            }
+        }
+        terms.sort_unstable();
+    }
+    let (wrong, i) = (r.below(40), r.below(terms.len() as u64) as usize);
+    match wrong {
+        0 => terms[i].1 = 0,
+        1 if terms.len() < 8 => terms.insert(i, terms[i]),
+        _ => {}
+    }
+    let time = [0, log.clock, log.clock.saturating_add(r.next() as u32), r.next() as u32][r.below(4) as usize];
+    let mut bytes = Frame::Register { time, number: r.below(32) as usize, k: 1 + r.pick(2, 16, 3) as usize, terms }.bytes();
+    match wrong {
+        2 => bytes.truncate(r.below(bytes.len() as u64) as usize),
+        3 => bytes.push(0),
+        // of four terms or eight there is no fill
+        4 => *bytes.last_mut().unwrap() |= 1,
+        5 => bytes[0] = (r.next() as u8) << 4,
+        _ => {}
+    }
+    bytes
+}
+
 fn picked(r: &mut Random, from: impl IntoIterator<Item = usize>) -> Option<usize> {
     let from: Vec<usize> = from.into_iter().collect();
     (!from.is_empty()).then(|| from[r.below(from.len() as u64) as usize])

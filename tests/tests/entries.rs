@@ -1,6 +1,6 @@
 //! Single calls: refusals in their order, lengths lent, the writer, and memory that no call left.
 
-use fennelrake_tests::engine::{self, Fields, Lent, FRAME_ANSWER, LIST_ANSWER, STATE};
+use fennelrake_tests::engine::{self, Fields, Lent, FRAME_ANSWER, LIST_ANSWER, SEARCH_ANSWER, STATE};
 use fennelrake_tests::paper::Frame;
 use fennelrake_tests::random::Random;
 
@@ -293,6 +293,8 @@ fn foreign_memory() {
             changed += (before.bytes() != state.bytes()) as usize;
             let mut answer = Lent::new(&r.bytes(LIST_ANSWER));
             engine::raw::list(&mut state, r.pick(4, 1 << 32, 32) as u32, &mut answer);
+            let mut answer = Lent::new(&r.bytes(SEARCH_ANSWER));
+            engine::raw::search(&state, &frame(&mut r), &mut answer);
             let (n, term) = (r.pick(4, 64, 2049) as usize, r.pick(8, 1 << 32, 1024) as u32);
             engine::raw::postings(&mut state, term, &mut Lent::new(&r.bytes(n)));
             // the term of a cell as it stands there, so that there are postings

@@ -1,10 +1,12 @@
-//! Random and hostile sequences of frames: after each one everything is compared with a ranking of the whole log afresh.
+//! Random and hostile sequences of frames: after each one everything is compared with a ranking of the whole log afresh, and after some a search with
+//! the log's.
 //! FENNELRAKE_SEED picks the seed, FENNELRAKE_ROUNDS how many passages each test runs: `FENNELRAKE_ROUNDS=50 cargo test --release` is a long run.
 
+use fennelrake_tests::compare;
 use fennelrake_tests::engine::{self, Lent, Reply, STATE};
-use fennelrake_tests::paper::{Frame, Log, Message, Query, TOP};
+use fennelrake_tests::paper::{asked, Frame, Log, Message, Query, TOP};
 use fennelrake_tests::random::Random;
-use fennelrake_tests::source::{Source, Style, ORDER};
+use fennelrake_tests::source::{question, Source, Style, ORDER};
 
 fn setting(name: &str, otherwise: u64) -> u64 {
     std::env::var(name).map_or(otherwise, |v| v.parse().unwrap_or_else(|_| panic!("{name} must be a number, and is '{v}'")))
@@ -84,9 +86,22 @@ enum Event {
     EarlierTakesThePlace,
     /// Of two postings of equal impact the less urgent stands first, being the later.
     LaterPostingBeforeUrgent,
+    /// A search ends with postings unread; reads all and fills its list; reads all and doesn't; and finds nothing to read.
+    SearchEnding,
+    SearchOfAllFull,
+    SearchOfAllShort,
+    SearchOfNothing,
+    /// It goes on where the k-th score is the sum; has two terms to choose from; and reads a second posting of a message.
+    SearchGoingOnAtTheSum,
+    SearchOfTiedTerms,
+    SearchSeeingAgain,
+    /// The last place is an earlier message's, being more urgent than a later one of its score.
+    SearchOfUrgency,
+    /// A cancelled message that fills its place has one of the terms.
+    SearchPastACancelledOne,
 }
 
-const EVENTS: [Event; 49] = [
+const EVENTS: [Event; 58] = [
     Event::SerialUsedAgain,
     Event::TwoInOneSecond,
     Event::LeavingAsOneArrives,
@@ -136,16 +151,27 @@ const EVENTS: [Event; 49] = [
     Event::LeftOutBeforeNewcomer,
     Event::EarlierTakesThePlace,
     Event::LaterPostingBeforeUrgent,
+    Event::SearchEnding,
+    Event::SearchOfAllFull,
+    Event::SearchOfAllShort,
+    Event::SearchOfNothing,
+    Event::SearchGoingOnAtTheSum,
+    Event::SearchOfTiedTerms,
+    Event::SearchSeeingAgain,
+    Event::SearchOfUrgency,
+    Event::SearchPastACancelledOne,
 ];
 
 struct Met {
     numbers: [usize; 15],
+    /// By which searches were answered.
+    searched: [usize; 15],
     events: [usize; EVENTS.len()],
 }
 
 impl Met {
     fn nothing() -> Self {
-        Met { numbers: [0; 15], events: [0; EVENTS.len()] }
+        Met { numbers: [0; 15], searched: [0; 15], events: [0; EVENTS.len()] }
     }
 
     fn note(&mut self, event: Event, met: bool) {
@@ -403,6 +429,30 @@ impl Passage {
             assert_eq!(engine::postings(&self.state, term, 8 * want.len() - 1), Err(12));
         }
     }
+
+    /// A search by any bytes; the list is compared with that of the query registered under this number, too.
+    fn compare_search(&mut self, bytes: &[u8], number: usize) {
+        let (log, met) = (&self.log, &mut self.met);
+        let found = compare::search(&self.state, log, bytes, number);
+        met.searched[*found.as_ref().err().unwrap_or(&0) as usize] += 1;
+        let (Ok(found), Ok(q)) = (found, asked(bytes)) else { return };
+        let full = found.list.len() == q.k;
+        met.note(Event::SearchEnding, found.left > 0);
+        met.note(Event::SearchOfAllFull, found.left == 0 && full);
+        met.note(Event::SearchOfAllShort, found.read > 0 && !full);
+        met.note(Event::SearchOfNothing, found.read == 0);
+        met.note(Event::SearchGoingOnAtTheSum, found.equal);
+        met.note(Event::SearchOfTiedTerms, found.tied);
+        met.note(Event::SearchSeeingAgain, found.again);
+        let last = found.list.last().filter(|_| full).and_then(|e| log.holder(e.0, log.clock));
+        let unlisted_twin = |&i: &usize| {
+            let m = &log.messages[i];
+            m.score(&q) == log.messages[last.unwrap()].score(&q) && found.list.iter().all(|e| e.0 != m.serial)
+        };
+        met.note(Event::SearchOfUrgency, last.is_some_and(|at| log.in_force_at(log.clock).iter().filter(|&&i| i > at).any(unlisted_twin)));
+        let cancelled = log.filled_at(log.clock).into_iter().map(|i| &log.messages[i]).filter(|m| m.cancelled);
+        met.note(Event::SearchPastACancelledOne, cancelled.into_iter().any(|m| m.score(&q) > 0));
+    }
 }
 
 /// Whether a message has entered the list that was accepted before another of its score which has not.
@@ -430,6 +480,7 @@ fn run_from(start: u32, style: Style, frames: usize, own_seed: u64, ruled_out: &
         println!("seed {seed}, round {round}");
         let mut source = Source::new(style, seed.wrapping_add(round));
         let mut r = Random::new(!seed.wrapping_add(round));
+        let mut asking = Random::new(seed.wrapping_add(round).rotate_left(32));
         let mut p = Passage::new(style.capacity, style.life);
         p.hand(&tick(start));
         for _ in 0..frames {
@@ -438,11 +489,18 @@ fn run_from(start: u32, style: Style, frames: usize, own_seed: u64, ruled_out: &
             if r.one_in(8) {
                 p.compare_postings(r.below(style.terms) as u32);
             }
+            if asking.one_in(4) {
+                // the frame itself, be it what it may, or a question
+                let bytes = if asking.one_in(3) { bytes } else { question(&mut asking, &p.log, &style) };
+                p.compare_search(&bytes, asking.below(32) as usize);
+            }
         }
         met.numbers.iter_mut().zip(p.met.numbers).for_each(|(all, one)| *all += one);
+        met.searched.iter_mut().zip(p.met.searched).for_each(|(all, one)| *all += one);
         met.events.iter_mut().zip(p.met.events).for_each(|(all, one)| *all += one);
     }
-    println!("numbers met: {:?}, events: {:?}", met.numbers, EVENTS.iter().zip(met.events).collect::<Vec<_>>());
+    println!("numbers met: {:?}, by searches: {:?}", met.numbers, met.searched);
+    println!("events: {:?}", EVENTS.iter().zip(met.events).collect::<Vec<_>>());
     assert!(met.numbers[0] > rounds as usize * frames / 3, "too few frames were accepted for the test to mean anything: {:?}", met.numbers);
     for number in ORDER {
         assert!(met.numbers[number as usize] > 0, "no frame was refused under {number}: {:?}", met.numbers);
@@ -450,6 +508,9 @@ fn run_from(start: u32, style: Style, frames: usize, own_seed: u64, ruled_out: &
     if seed == own_seed && rounds >= ROUNDS {
         for event in EVENTS.into_iter().filter(|e| !ruled_out.contains(e)) {
             assert!(met.events[event as usize] > 0, "{event:?} wasn't met");
+        }
+        for number in 0..=6 {
+            assert!(met.searched[number] > 0, "no search was answered by {number}: {:?}", met.searched);
         }
     }
 }
@@ -482,6 +543,8 @@ fn one_message_in_force() {
         Event::LeftOutBeforeNewcomer,
         Event::EarlierTakesThePlace,
         Event::LaterPostingBeforeUrgent,
+        Event::SearchGoingOnAtTheSum,
+        Event::SearchOfUrgency,
     ];
     let style = Style { capacity: 1, life: 50, terms: 6, counts: 3, serials: 4, queries: 8, entries: 16, step: 4, jump: 10, cancels: 18 };
     run(style, 1500, 2, &ruled_out);
@@ -506,6 +569,8 @@ fn one_second_of_life() {
         Event::LeftOutBeforeNewcomer,
         Event::EarlierTakesThePlace,
         Event::LaterPostingBeforeUrgent,
+        Event::SearchGoingOnAtTheSum,
+        Event::SearchOfUrgency,
     ];
     let style = Style { capacity: 256, life: 1, terms: 8, counts: 3, serials: 60, queries: 12, entries: 16, step: 1, jump: 10, cancels: 18 };
     run(style, 2000, 4, &ruled_out);
@@ -548,7 +613,15 @@ fn urgencies_decide() {
 /// One term: every score for a query is the same, so only urgency and order of acceptance are left.
 #[test]
 fn one_score() {
-    let ruled_out = [Event::Skip, Event::LeavingAsALowerArrives, Event::UnreachedByACancellation, Event::ScoreBeforeUrgency];
+    let ruled_out = [
+        Event::Skip,
+        Event::LeavingAsALowerArrives,
+        Event::UnreachedByACancellation,
+        Event::ScoreBeforeUrgency,
+        Event::SearchEnding,
+        Event::SearchOfTiedTerms,
+        Event::SearchSeeingAgain,
+    ];
     let style = Style { capacity: 9, life: 40, terms: 1, counts: 3, serials: 30, queries: 6, entries: 4, step: 2, jump: 30, cancels: 9 };
     run(style, 4000, 9, &ruled_out);
 }

@@ -15,3 +15,4 @@ pub mod PostLaws
 pub mod ReadLaws
 pub mod Demand3
 pub mod PostingLaws
+pub mod SearchLaws

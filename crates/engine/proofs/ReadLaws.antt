@@ -37,7 +37,7 @@ pub record Read (bytes terms amounts : List ℕ) (m w : ℕ) (make : List Pair �
   pub fit : (i : ℕ) → i < m → (getD terms i 0 < 2 ^ termWidth) × (getD amounts i 0 < 2 ^ w)
 
 -- as many of the arrays as the pairs take
-side-take : (n m : ℕ) (ts us : List ℕ) → n ≤ m → side-by-side n (take m ts) (take m us) ≡ side-by-side n ts us
+pub side-take : (n m : ℕ) (ts us : List ℕ) → n ≤ m → side-by-side n (take m ts) (take m us) ≡ side-by-side n ts us
 unfolding side-by-side
 side-take zero m ts us h = refl
 side-take (suc n) zero ts us h = absurd (not-suc-le-zero h)

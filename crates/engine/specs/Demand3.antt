@@ -6,14 +6,17 @@ use mathlib.Core.List.{List, [], _∷_, _++_}
 use Rattle.paper.specs.Layout.{stateLength}
 use Rattle.paper.specs.Log.{Log, Call, fresh, replay, judgeList, listed, judgePostings, posted}
 use lib.ListN.{length}
+use Rattle.paper.specs.Rank.{lines}
+use Rattle.paper.specs.Search.{judgeSearch, found}
 use Rattle.paper.specs.Demand3.{AllSettled, Answered}
 use Rattle.memory.specs.Words.{words}
 use Rattle.rank.specs.Listing.{linesOf, TidyLines}
 use Rattle.engine.specs.declared.Reply.{Reply}
 use Rattle.engine.specs.declared.Listing.{Listing}
 use Rattle.engine.specs.declared.Found.{Found}
+use Rattle.engine.specs.declared.Searched.{Searched}
 use Rattle.engine.specs.Represents.{keeping}
-use Rattle.engine.specs.Post.{callOf, replyOf, FramePost, ListPost, postedInto, PostingsPost}
+use Rattle.engine.specs.Post.{callOf, replyOf, FramePost, ListPost, postedInto, PostingsPost, SearchPost}
 
 -- frames handed one after another, each on the memory as the one before left it, chained by the promise of `frame`
 pub data Frames : List ℕ → List (List ℕ) → List ℕ → Type 0 where
@@ -41,6 +44,12 @@ pub record Demand3 (N T : ℕ) (s : List ℕ) (frames : List (List ℕ)) (s′ :
       → (r .number ≡ judgePostings (logOf N T s frames) stateLength (length out) t)
       × (r .number ≡ 0 → (r .count ≡ length (posted (logOf N T s frames) t)) × (out′ ≡ postedInto (logOf N T s frames) t out))
       × ((r .number ≡ 0 → ⊥) → (r .count ≡ 0) × (out′ ≡ out))
+  -- a search: "The reply is the list that registering would give, and the postings read, equal to the steps of this rule"; refused, nothing
+  pub searches : (bytes : List ℕ) (r : Searched) → SearchPost s′ bytes r
+      → (r .number ≡ judgeSearch 0 bytes stateLength 0)
+      × (linesOf (r .list) ≡ lines (found 0 (logOf N T s frames) bytes stateLength 0 .list))
+      × (r .read ≡ found 0 (logOf N T s frames) bytes stateLength 0 .read)
+      × TidyLines (r .list)
   -- "A query registered before and after the last frame is marked by it exactly when an arriving or departing message has, in one of its terms,
   -- an impact above the threshold it had there before that frame; unmarked, its thresholds, candidates and list are as they were"
   pub last : (first : List (List ℕ)) (bytes : List ℕ) (r : Reply) (s₁ : List ℕ) → frames ≡ first ++ (bytes ∷ []) → Frames s first s₁ → FramePost s₁ bytes r s′

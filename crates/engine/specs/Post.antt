@@ -8,6 +8,8 @@ use Rattle.paper.specs.Frame.{shape, numbers, termWidth, mostListed}
 use Rattle.paper.specs.Frame.Shape.{refused}
 use Rattle.paper.specs.Layout.{stateLength, recordAt, recordWords, capacityAt, lifeAt}
 use Rattle.paper.specs.Log.{Log, Call, judgeStart, after, judgeList, listed, postingLength, posted, judgePostings}
+use Rattle.paper.specs.Rank.{lines}
+use Rattle.paper.specs.Search.{judgeSearch, found}
 use Rattle.paper.specs.Demand3.{replyTo, markedBy}
 use Rattle.paper.specs.Demand3 as Demand3
 use Rattle.memory.specs.Words.{words, putWord}
@@ -16,6 +18,7 @@ use Rattle.posting.specs.Lines.{lineBytes}
 use Rattle.engine.specs.declared.Reply.{Reply}
 use Rattle.engine.specs.declared.Listing.{Listing}
 use Rattle.engine.specs.declared.Found.{Found}
+use Rattle.engine.specs.declared.Searched.{Searched}
 use Rattle.engine.specs.Represents.{Represents, keeping}
 
 -- a call with these bytes on state memory of this length; nothing is written into lent output
@@ -84,3 +87,13 @@ pub record PostingsPost (s : List ℕ) (t : ℕ) (out : List ℕ) (r : Found) (o
   pub refused : (r .number ≡ 0 → ⊥) → (out′ ≡ out) × (r .count ≡ 0)
   pub right : (log : Log) → Represents log (words s) → length s ≡ stateLength
       → (r .number ≡ judgePostings log (length s) (length out) t) × (r .number ≡ 0 → (r .count ≡ length (posted log t)) × (out′ ≡ postedInto log t out))
+
+-- "judged by 12 and then 1 to 6", whatever the memory holds. "The reply is the list that registering would give, and the postings read, equal to the steps
+-- of this rule": paper's search of the log. The memory is lent to be read only.
+pub record SearchPost (s bytes : List ℕ) (r : Searched) : Type 0 where
+  pub number : r .number ≡ judgeSearch 0 bytes (length s) 0
+  pub most : r .list .count ≤ mostListed
+  pub tidy : TidyLines (r .list)
+  pub refused : (r .number ≡ 0 → ⊥) → (linesOf (r .list) ≡ []) × (r .read ≡ 0)
+  pub right : (log : Log) → Represents log (words s)
+      → (linesOf (r .list) ≡ lines (found 0 log bytes (length s) 0 .list)) × (r .read ≡ found 0 log bytes (length s) 0 .read)

@@ -10,12 +10,14 @@ ghost use Rattle.paper.specs.Window.{mostMessages, arrival};
 ghost use Rattle.paper.specs.Layout.{stateLength, slots, capacityAt};
 ghost use Rattle.paper.specs.Log.{inRanges};
 ghost use Rattle.memory.specs.Words.{words};
-ghost use Rattle.engine.specs.Post.{StartPost, FramePost, ListPost, PostingsPost};
+ghost use Rattle.rank.specs.Listing.{NoLine};
+ghost use Rattle.engine.specs.Post.{StartPost, FramePost, ListPost, PostingsPost, SearchPost};
 ghost use Rattle.window.specs.Slot.{slot};
 ghost use Rattle.window.specs.Table.{termLimit, RaisedBy};
 ghost use Rattle.window.specs.Cursor.{Moved};
 ghost use Rattle.query.specs.Post.{arriving};
 ghost use Rattle.engine.specs.Inner.{Silenced, Passed, Followed, Departed, Joined, Did, Ticked};
+use candidates::Query;
 use frame::Kind;
 use paper::MOST_PAIRS;
 use paper::layout;
@@ -45,6 +47,12 @@ pub struct Listing {
 pub struct Found {
     pub number: u32,
     pub count: u32,
+}
+
+pub struct Searched {
+    pub number: u32,
+    pub list: Lines,
+    pub read: u32,
 }
 
 fn refused(number: u32) -> Reply
@@ -493,5 +501,45 @@ pub fn postings(state: &[u8], term: u32, out: &mut [u8]) -> Found
     Found {
         number: 0,
         count: found as u32,
+    }
+}
+
+fn unanswered(number: u32) -> Searched
+    ensures { λ r. ⌜ (r .number ≡ number) × NoLine (r .list) × (r .read ≡ 0) ⌝ }
+{
+    Searched {
+        number,
+        list: Lines::none(),
+        read: 0,
+    }
+}
+
+// The list that registering the frame's query would give, and the postings that a search for it reads.
+pub fn search(state: &[u8], bytes: &[u8]) -> Searched
+    ensures { λ r. ⌜ SearchPost (now (state .entry)) (now (bytes .entry)) r ⌝ }
+{
+    if state.len() != layout::STATE {
+        return unanswered(12);
+    }
+    let asked = frame::read_asked(bytes);
+    if asked.number != 0 {
+        return unanswered(asked.number);
+    }
+    let terms = asked.terms;
+    let weights = asked.weights;
+    let query = Query {
+        k: asked.k as usize,
+        n: asked.n,
+        terms: first_eight(terms),
+        weights: first_eight(weights),
+    };
+    let cursor = Cursor::load(state);
+    let oldest = cursor.oldest;
+    let count = cursor.count;
+    let outcome = search::search(state, oldest, count, query);
+    Searched {
+        number: 0,
+        list: Lines::of(outcome.list),
+        read: outcome.read,
     }
 }

@@ -1,4 +1,4 @@
--- Laws of the answers to a frame and to a list reading: what a host hears of the words that were written. Assumes nothing.
+-- Laws of the answers to a frame, to a list reading and to a search: what a host hears of the words that were written. Assumes nothing.
 use Prim.Native.Nat.{ℕ, zero, suc, _+_, _≤_, _<_, _*_}
 use native.Mathlib.Omega.{arith}
 use mathlib.Core.Path.{_≡_, refl, sym, ap, _∙_, subst}
@@ -7,18 +7,20 @@ use mathlib.Core.List.{List, [], _∷_, _++_, append-assoc}
 use mir.Syntax.{w32}
 use mir.Val.{Fits}
 use lib.ListN.{length, getD, set, take, drop, replicate, length-append, length-drop, take-append-drop, length-set}
-use lib.Seq.{take-all, take-at, drop-at, getD-drop, getD-set-same, getD-set-other, ext-getD}
+use lib.Seq.{take-all, take-at, drop-at, length-take-le, getD-append-add, getD-drop, getD-set-same, getD-set-other, ext-getD}
 use borrow.Author.Tests.{ne-eqb}
 use Rattle.paper.specs.Frame.{mostListed}
 use Rattle.memory.specs.Words.{bigWords, putBig}
 use Rattle.memory.specs.Keeps.{Keeps, Stored}
 use Rattle.memory.proofs.WordLaws.{put-big, put-big-length, big-words-length, big-append}
 use Rattle.memory.proofs.KeepsLaws.{keeps-trans, keeps-wider, keeps-part, big-keeps}
+use Rattle.rank.specs.declared.Lines.{Lines}
 use Rattle.rank.specs.Listing.{listed, linesOf, TidyLines}
 use Rattle.engine.specs.declared.Reply.{Reply}
 use Rattle.engine.specs.declared.Listing.{Listing}
-use Rattle.engine.specs.Post.{FramePost, ListPost}
-use Rattle.fennelrake.specs.Entry.{frameAnswer, listAnswer, Output, heardReply, heardList, noEntry, heardListing, FrameEntry, ListEntry}
+use Rattle.engine.specs.declared.Searched.{Searched}
+use Rattle.engine.specs.Post.{FramePost, ListPost, SearchPost}
+use Rattle.fennelrake.specs.Entry.{frameAnswer, listAnswer, searchAnswer, Output, heardReply, heardList, noEntry, heardListing, heardSearch, FrameEntry, ListEntry, SearchEntry}
 
 output-same : (written number : ℕ) (a : List ℕ) → Output written number a a
 output-same written number a = record { long = refl; past = refl; refused = λ _. refl }
@@ -129,18 +131,20 @@ list-words a {a₁} {w₂} {w₃} {serials} {scores} {count} l f e p q =
     let second : take mostListed (drop 1 w₃) ≡ serials = keeps-part (q .keeps) 1 mostListed (inl (omega arith)) ∙ p .reads in
     in-three w₃ (omega (arith, q .keeps .long, p .keeps .long)) ∙ rw (first, second, q .reads)
 
-module _ (part a : List ℕ) (r : Listing) (h : listAnswer ≤ length a) (lp : length part ≡ listAnswer) (ls : length (r .list .serials) ≡ mostListed)
-    (lc : length (r .list .scores) ≡ mostListed) (e : bigWords part ≡ r .list .count ∷ (r .list .serials ++ r .list .scores)) where
-  heard-list : r .list ≡ heardList (bigWords (part ++ drop listAnswer a))
+module _ (part a : List ℕ) (l : Lines) (lp : length part ≡ listAnswer) (ls : length (l .serials) ≡ mostListed) (lc : length (l .scores) ≡ mostListed)
+    (e : bigWords part ≡ l .count ∷ (l .serials ++ l .scores)) where
+  heard-list : l ≡ heardList (bigWords (part ++ drop listAnswer a))
   heard-list =
-      let ss : List ℕ = r .list .serials in
-      let cs : List ℕ = r .list .scores in
+      let ss : List ℕ = l .serials in
+      let cs : List ℕ = l .scores in
       let rest : List ℕ = bigWords (drop listAnswer a) in
       let first : take mostListed ((ss ++ cs) ++ rest) ≡ ss = rw append-assoc (take-at ss (cs ++ rest) mostListed ls) in
       let second : take mostListed (drop mostListed ((ss ++ cs) ++ rest)) ≡ cs =
       rw (append-assoc, drop-at ss (cs ++ rest) mostListed ls) (take-at cs rest mostListed lc) in
-      rw (big-append part (drop listAnswer a) (rw lp), e) (λ i. record { serials = sym first i; scores = sym second i; count = r .list .count })
+      rw (big-append part (drop listAnswer a) (rw lp), e) (λ i. record { serials = sym first i; scores = sym second i; count = l .count })
 
+module _ (part a : List ℕ) (r : Listing) (h : listAnswer ≤ length a) (lp : length part ≡ listAnswer) (ls : length (r .list .serials) ≡ mostListed)
+    (lc : length (r .list .scores) ≡ mostListed) (e : bigWords part ≡ r .list .count ∷ (r .list .serials ++ r .list .scores)) where
   pub list-accepted : {s : List ℕ} {n : ℕ} → r .number ≡ 0 → ListPost s n r → ListEntry s n a (r .number) (part ++ drop listAnswer a)
   list-accepted {s} {n} z p =
       rw z
@@ -155,4 +159,76 @@ module _ (part a : List ℕ) (r : Listing) (h : listAnswer ≤ length a) (lp : l
       })
     where
       same : r ≡ heardListing 0 (part ++ drop listAnswer a)
-      same = λ i. record { number = z i; list = heard-list i }
+      same = λ i. record { number = z i; list = heard-list part a (r .list) lp ls lc e i }
+
+-- ---- search
+
+pub search-short : {s bytes a : List ℕ} → length a < searchAnswer → SearchEntry s bytes a 12 a
+search-short {a = a} h = record { short = λ _. refl; enough = λ k. absurd (omega arith); output = output-same searchAnswer 12 a }
+
+pub search-refused : {s bytes a : List ℕ} {r : Searched} → searchAnswer ≤ length a → (r .number ≡ 0 → ⊥) → SearchPost s bytes r → SearchEntry s bytes a (r .number) a
+search-refused {s} {bytes} {a} {r} h nz p = record {
+  short = λ k. absurd (omega arith);
+  enough = λ _. rw (ne-eqb (r .number) 0 nz) nothing;
+  output = output-same searchAnswer (r .number) a;
+}
+  where
+    nothing : SearchPost s bytes (record { number = r .number; list = noEntry; read = 0 })
+    nothing =
+        let z = p .refused nz in
+        record {
+          number = p .number;
+          most = omega arith;
+          tidy = none-tidy;
+          refused = λ _. (none-listed, refl);
+          right = λ log is. let t = p .right log is in (none-listed ∙ sym (z .0) ∙ t .0, sym (z .1) ∙ t .1);
+        }
+
+-- the word after a list's answer
+word-past : (p b : List ℕ) → length p ≡ listAnswer → getD (bigWords (p ++ b)) (1 + 2 * mostListed) 0 ≡ getD (bigWords b) 0 0
+word-past p b l =
+    let n : length (bigWords p) + 0 ≡ 1 + 2 * mostListed = omega (arith, big-words-length p) in
+    rw (big-append p b (rw l), ← n) (getD-append-add (bigWords p) (bigWords b) 0 0)
+
+-- the postings read are written, and then a list's answer before them
+module _ (part a a₁ : List ℕ) (r : Searched) (h : searchAnswer ≤ length a) (fr : Fits w32 (r .read)) (e₁ : a₁ ≡ putBig a (1 + 2 * mostListed) (r .read))
+    (lp : length part ≡ listAnswer) (ls : length (r .list .serials) ≡ mostListed) (lc : length (r .list .scores) ≡ mostListed)
+    (e : bigWords part ≡ r .list .count ∷ (r .list .serials ++ r .list .scores)) where
+  abbrev whole : List ℕ
+  whole = part ++ drop listAnswer a₁
+
+  kept : Keeps listAnswer searchAnswer a a₁
+  kept = rw e₁ (keeps-wider (omega arith) (omega arith) (big-keeps a (1 + 2 * mostListed) (r .read)))
+
+  long : length whole ≡ length a
+  long = simp (length-append, length-drop) (omega (arith, kept .long))
+
+  heard-read : getD (bigWords whole) (1 + 2 * mostListed) 0 ≡ r .read
+  heard-read =
+      word-past part (drop listAnswer a₁) lp
+      ∙ sym (word-past (take listAnswer a₁) (drop listAnswer a₁) (length-take-le listAnswer a₁ (omega (arith, kept .long))))
+      ∙ ap (λ (x : List ℕ). getD (bigWords x) (1 + 2 * mostListed) 0) (take-append-drop listAnswer a₁)
+      ∙ rw (e₁, put-big a (1 + 2 * mostListed) (r .read) (omega arith) (fr .fits))
+      (getD-set-same (bigWords a) (1 + 2 * mostListed) (r .read) 0 (omega (arith, big-words-length a)))
+
+  past : drop searchAnswer whole ≡ drop searchAnswer a
+  past =
+      ext-getD 0 (drop searchAnswer whole) (drop searchAnswer a) (simp length-drop (omega (arith, long)))
+      (λ i _. simp getD-drop
+      (let n : length part + (4 + i) ≡ searchAnswer + i = omega arith in
+      rw (← n) (getD-append-add part (drop listAnswer a₁) (4 + i) 0)
+      ∙ getD-drop listAnswer a₁ (4 + i) 0
+      ∙ kept .above (listAnswer + (4 + i)) (omega arith)
+      ∙ ap (λ (k : ℕ). getD a k 0) (omega arith)))
+
+  pub search-accepted : {s bytes : List ℕ} → r .number ≡ 0 → SearchPost s bytes r → SearchEntry s bytes a (r .number) whole
+  search-accepted {s} {bytes} z p =
+      rw z
+      (record {
+        short = λ k. absurd (omega arith);
+        enough = λ _. subst (SearchPost s bytes) same p;
+        output = record { long = long; past = past; refused = λ nz. absurd (nz refl) };
+      })
+    where
+      same : r ≡ heardSearch 0 whole
+      same = λ i. record { number = z i; list = heard-list part a₁ (r .list) lp ls lc e i; read = sym heard-read i }

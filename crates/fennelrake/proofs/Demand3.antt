@@ -9,6 +9,8 @@ use borrow.Author.Tests.{leb-true, leb-false}
 use Rattle.paper.specs.Frame.{numbers}
 use Rattle.paper.specs.Layout.{stateLength}
 use Rattle.paper.specs.Log.{Log, Call, fresh, after, replay, judgeList, listed}
+use Rattle.paper.specs.Rank.{lines}
+use Rattle.paper.specs.Search.{judgeSearch, found}
 use Rattle.paper.specs.Demand3.{replyTo, markedBy, Answered}
 use Rattle.paper.proofs.MarkLaws.{answered-by-log}
 use Rattle.memory.specs.Words.{words}
@@ -18,11 +20,12 @@ use Rattle.engine.specs.Represents.{Represents, keeping}
 use Rattle.engine.specs.Post.{replyOf, StartPost}
 use Rattle.engine.proofs.RepresentsLaws.{all-settled}
 use Rattle.engine.proofs.Demand3.{begun, begun-long}
-use Rattle.fennelrake.specs.Entry.{frameAnswer, listAnswer, heardReply, heardListing, FrameEntry, ListEntry}
+use Rattle.fennelrake.specs.Entry.{frameAnswer, listAnswer, searchAnswer, heardReply, heardListing, heardSearch, FrameEntry, ListEntry, SearchEntry}
 use Rattle.fennelrake.specs.Demand3.{callOf, Calls, logOf, Demand3}
 use Rattle.fennelrake.specs.Demand3.Calls.{none-left, handed}
 use Rattle.fennelrake.proofs.AnswerLaws.{none-tidy}
-use Rattle.fennelrake.proofs.LentLaws.{after-enough, reply-enough, marked-enough, after-short, reply-short, list-enough, lines-enough, list-short, lines-short}
+use Rattle.fennelrake.proofs.LentLaws.{after-enough, reply-enough, marked-enough, after-short, reply-short, list-enough, lines-enough, list-short, lines-short, search-enough, search-short}
+use Rattle.fennelrake.proofs.LentLaws as Lent
 
 -- enough bytes, or too few
 by-length : {P : Type 0} (needed n : ℕ) → (needed ≤ n → P) → (n < needed → P) → P
@@ -109,6 +112,32 @@ module _ (log : Log) (s : List ℕ) (n : ℕ) (a a′ : List ℕ) (r : ℕ) (is 
   heard : Heard
   heard = by-length listAnswer (length a) heard-enough heard-short
 
+-- ---- a search
+
+module _ (log : Log) (s bytes a a′ : List ℕ) (r : ℕ) (is : Represents log (words s)) (l : length s ≡ stateLength) (p : SearchEntry s bytes a r a′) where
+  abbrev HeardSearch : Type 0
+  HeardSearch =
+      (r ≡ judgeSearch searchAnswer bytes stateLength (length a))
+      × (linesOf (heardSearch r a′ .list) ≡ lines (found searchAnswer log bytes stateLength (length a) .list))
+      × (heardSearch r a′ .read ≡ found searchAnswer log bytes stateLength (length a) .read)
+      × TidyLines (heardSearch r a′ .list)
+
+  found-enough : searchAnswer ≤ length a → HeardSearch
+  found-enough h =
+      let post = p .enough h in
+      let t = post .right log is in
+      rw (search-enough searchAnswer log bytes stateLength (length a) h, Lent.found-enough searchAnswer log bytes stateLength (length a) h, ← l)
+      (post .number, t .0, t .1, post .tidy)
+
+  found-short : length a < searchAnswer → HeardSearch
+  unfolding Listing.listed
+  found-short h =
+      rw (p .short h, search-short searchAnswer log bytes stateLength (length a) h, Lent.found-short searchAnswer log bytes stateLength (length a) h)
+      (refl, refl, refl, none-tidy)
+
+  searched : HeardSearch
+  searched = by-length searchAnswer (length a) found-enough found-short
+
 -- ---- all
 
 module _ (N T : ℕ) (s₀ s : List ℕ) (n : ℕ) (start : StartPost N T s₀ n s) (ok : n ≡ 0) where
@@ -126,6 +155,7 @@ module _ (N T : ℕ) (s₀ s : List ℕ) (n : ℕ) (start : StartPost N T s₀ n
         postings = λ t out r out′ p.
             let x = p .right (logOf N T calls) (h .0) (h .1) in
             rw (← (h .1)) (x .0, x .1, λ z. (p .refused z .1, p .refused z .0));
+        searches = λ bytes a a′ r p. searched (logOf N T calls) s′ bytes a a′ r (h .0) (h .1) p;
         last = λ first bytes a a′ s₁ r e before p.
             let b = left before in
             step (logOf N T first) s₁ bytes a r s′ a′ (b .0) (b .1) p .answered;

@@ -10,6 +10,7 @@ use Rattle.paper.specs.Frame.{shape}
 use Rattle.paper.specs.Rank.{Line}
 use Rattle.paper.specs.Layout.{stateLength}
 use Rattle.paper.specs.Log.{Log, Call, lent, judgeShape, judge, acceptShape, after, departuresShape, departures, inUse, queryAt, judgeList, listOf, listed, seen}
+use Rattle.paper.specs.Search.{Outcome, asked, refusalOf, queryIn, nothing, foundFor, judgeSearch, found}
 use Rattle.paper.specs.Demand3.{Keeping, Reply, marksShape, replyTo, markedShape, markedBy}
 
 module _ (needed state output : ℕ) where
@@ -95,3 +96,28 @@ module _ (needed : ℕ) (log : Log) (state output n : ℕ) where
   pub lines-short : output < needed → listed needed log state output n ≡ []
   unfolding listed
   lines-short h = ap linesBy (list-short h)
+
+-- ---- a search
+
+module _ (needed : ℕ) (log : Log) (bytes : List ℕ) (state output : ℕ) where
+  abbrev searchBy : Bool → ℕ
+  searchBy t = cond t (refusalOf (asked bytes)) 12
+
+  abbrev foundBy : ℕ → Outcome
+  foundBy r = cond (eqb r 0) (foundFor log (queryIn (asked bytes))) nothing
+
+  pub search-enough : needed ≤ output → judgeSearch needed bytes state output ≡ judgeSearch 0 bytes state 0
+  unfolding judgeSearch
+  search-enough h = ap searchBy (lent-enough needed state output h)
+
+  pub found-enough : needed ≤ output → found needed log bytes state output ≡ found 0 log bytes state 0
+  unfolding found
+  found-enough h = ap foundBy (search-enough h)
+
+  pub search-short : output < needed → judgeSearch needed bytes state output ≡ 12
+  unfolding judgeSearch
+  search-short h = ap searchBy (lent-short needed state output h)
+
+  pub found-short : output < needed → found needed log bytes state output ≡ nothing
+  unfolding found
+  found-short h = ap foundBy (search-short h)

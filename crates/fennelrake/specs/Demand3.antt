@@ -6,12 +6,14 @@ use mathlib.Core.List.{List, [], _∷_, _++_}
 use lib.ListN.{length}
 use Rattle.paper.specs.Layout.{stateLength}
 use Rattle.paper.specs.Log.{Log, Call, fresh, replay, judgeList, listed, judgePostings, posted}
+use Rattle.paper.specs.Rank.{lines}
+use Rattle.paper.specs.Search.{judgeSearch, found}
 use Rattle.paper.specs.Demand3.{AllSettled, Answered}
 use Rattle.memory.specs.Words.{words}
 use Rattle.rank.specs.Listing.{linesOf, TidyLines}
 use Rattle.engine.specs.Represents.{keeping}
 use Rattle.engine.specs.Post.{replyOf, postedInto, PostingsPost}
-use Rattle.fennelrake.specs.Entry.{frameAnswer, listAnswer, heardReply, heardListing, heardFound, FrameEntry, ListEntry}
+use Rattle.fennelrake.specs.Entry.{frameAnswer, listAnswer, searchAnswer, heardReply, heardListing, heardSearch, heardFound, FrameEntry, ListEntry, SearchEntry}
 
 -- what the paper log is fed: the bytes and the lengths lent
 abbrev pub callOf : (s bytes a : List ℕ) → Call
@@ -39,6 +41,12 @@ pub record Demand3 (N T : ℕ) (s : List ℕ) (calls : List Call) (s′ : List �
       → (heardFound r .number ≡ judgePostings (logOf N T calls) stateLength (length out) t)
       × (heardFound r .number ≡ 0 → (heardFound r .count ≡ length (posted (logOf N T calls) t)) × (out′ ≡ postedInto (logOf N T calls) t out))
       × ((heardFound r .number ≡ 0 → ⊥) → (heardFound r .count ≡ 0) × (out′ ≡ out))
+  -- a search: "The reply is the list that registering would give, and the postings read, equal to the steps of this rule"; refused, nothing
+  pub searches : (bytes a a′ : List ℕ) (r : ℕ) → SearchEntry s′ bytes a r a′
+      → (r ≡ judgeSearch searchAnswer bytes stateLength (length a))
+      × (linesOf (heardSearch r a′ .list) ≡ lines (found searchAnswer (logOf N T calls) bytes stateLength (length a) .list))
+      × (heardSearch r a′ .read ≡ found searchAnswer (logOf N T calls) bytes stateLength (length a) .read)
+      × TidyLines (heardSearch r a′ .list)
   -- "A query registered before and after the last frame is marked by it exactly when ..; unmarked, its thresholds, candidates and list are as they
   -- were"
   pub last : (first : List Call) (bytes a a′ s₁ : List ℕ) (r : ℕ) → calls ≡ first ++ (callOf s₁ bytes a ∷ []) → Calls s first s₁

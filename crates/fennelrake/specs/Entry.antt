@@ -13,7 +13,8 @@ use Rattle.frame.specs.declared.Written.{Written}
 use Rattle.engine.specs.declared.Reply.{Reply}
 use Rattle.engine.specs.declared.Listing.{Listing}
 use Rattle.engine.specs.declared.Found.{Found}
-use Rattle.engine.specs.Post.{FramePost, ListPost}
+use Rattle.engine.specs.declared.Searched.{Searched}
+use Rattle.engine.specs.Post.{FramePost, ListPost, SearchPost}
 
 -- how many bytes the answers take, in words of four: marks and departures; the number of entries, then serials and scores
 abbrev pub frameAnswer : ℕ
@@ -60,6 +61,24 @@ pub record ListEntry (s : List ℕ) (n : ℕ) (a : List ℕ) (r : ℕ) (a′ : L
   pub short : length a < listAnswer → r ≡ 12
   pub enough : listAnswer ≤ length a → ListPost s n (heardListing r a′)
   pub output : Output listAnswer r a a′
+
+-- ---- search
+
+-- what a list's answer holds, and a word more: the postings read
+abbrev pub searchAnswer : ℕ
+searchAnswer = listAnswer + 4
+
+abbrev pub heardSearch : ℕ → List ℕ → Searched
+heardSearch r a = record {
+  number = r;
+  list = heardListing r a .list;
+  read = cond (eqb r 0) (getD (bigWords a) (1 + 2 * mostListed) 0) 0;
+}
+
+pub record SearchEntry (s bytes a : List ℕ) (r : ℕ) (a′ : List ℕ) : Type 0 where
+  pub short : length a < searchAnswer → r ≡ 12
+  pub enough : searchAnswer ≤ length a → SearchPost s bytes (heardSearch r a′)
+  pub output : Output searchAnswer r a a′
 
 -- ---- postings
 

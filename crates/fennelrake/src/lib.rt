@@ -7,15 +7,19 @@ ghost use Rattle.paper.specs.Write.{fromFields};
 ghost use Rattle.memory.specs.Words.{bigWords};
 ghost use Rattle.frame.specs.Write.{fields, WritePost};
 ghost use Rattle.engine.specs.Post.{StartPost, PostingsPost};
-ghost use Rattle.fennelrake.specs.Entry.{listAnswer, FrameEntry, ListEntry, termsOf, heardFound, heardWriting};
+ghost use Rattle.fennelrake.specs.Entry.{listAnswer, FrameEntry, ListEntry, SearchEntry, termsOf, heardFound, heardWriting};
 use paper::MOST_LISTED;
 
-// How many bytes the answers to a frame and to a list reading take, and where in the latter the scores start, in words.
+// How many bytes the answers take, and where in a list's the scores start and in a search's the postings read stand, in words.
 const FRAME_ANSWER: usize = 4 * 2;
 
 const LIST_ANSWER: usize = 4 * (1 + 2 * MOST_LISTED);
 
 const LIST_SCORES: usize = 1 + MOST_LISTED;
+
+const SEARCH_ANSWER: usize = LIST_ANSWER + 4;
+
+const SEARCH_READ: usize = 1 + 2 * MOST_LISTED;
 
 #[no_mangle]
 pub extern "C" fn fennelrake_start(state: &mut [u8], capacity: u32, life: u32) -> u32
@@ -72,6 +76,31 @@ pub extern "C" fn fennelrake_list(state: &[u8], number: u32, answer: &mut [u8]) 
         scores,
     );
     listing.number
+}
+
+// The answer: that of a list, for the frame's query as if it were registered, and the postings read.
+#[no_mangle]
+pub extern "C" fn fennelrake_search(state: &[u8], bytes: &[u8], answer: &mut [u8]) -> u32
+    ensures { λ r. ⌜ SearchEntry (now (state .entry)) (now (bytes .entry)) (now (answer .entry)) r (now (answer .exit)) ⌝ }
+{
+    if answer.len() < SEARCH_ANSWER {
+        return 12;
+    }
+    let searched = engine::search(state, bytes);
+    if searched.number != 0 {
+        return searched.number;
+    }
+    let list = searched.list;
+    let serials = list.serials;
+    let scores = list.scores;
+    memory::put_big(answer, SEARCH_READ, searched.read);
+    put_list(
+        &mut answer[..LIST_ANSWER],
+        list.count as u32,
+        serials,
+        scores,
+    );
+    searched.number
 }
 
 // The postings of a term, into out: serial and impact of each, four bytes each. Number times 2 to the 32, and how many there are.

@@ -4,3 +4,4 @@ pub mod LaidLaws
 pub mod HeadLaws
 pub mod WriteLaws
 pub mod RoundTrip
+pub mod AskLaws

@@ -44,7 +44,7 @@ read-written x s t w r post z got = go (fromFields x) refl (sym (post .number) �
 
 -- ---- the pairs in their arrays
 
-length-padded : (n : ℕ) (xs : List ℕ) → length (padded n xs) ≡ n
+pub length-padded : (n : ℕ) (xs : List ℕ) → length (padded n xs) ≡ n
 length-padded zero xs = refl
 length-padded (suc n) [] = ap suc (length-padded n [])
 length-padded (suc n) (x ∷ xs) = ap suc (length-padded n xs)

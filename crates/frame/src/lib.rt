@@ -10,7 +10,9 @@ ghost use Rattle.wire.specs.Field.{field, placed, total, spell, scan};
 ghost use Rattle.paper.specs.Frame.{shape, shapeOfKind, rowOf, gradesKnown, kindWidth, written, bytesFor, fillAfter};
 ghost use Rattle.paper.specs.Frame.Shape.{refused};
 ghost use Rattle.paper.specs.Write.{fromFields, side-by-side};
+ghost use Rattle.paper.specs.Search.{asked};
 ghost use Rattle.frame.specs.Read.{ReadPost, PairsPost, CheckedPost, RowWith, RowPost, FramedPost, Narrow, padded, judgeNext, fitNumber};
+ghost use Rattle.frame.specs.Ask.{AskedPost, askedNumber};
 ghost use Rattle.frame.specs.Write.{WritePost, ValuesPost, PutPost, fields, fitting, lessOne, soundPair, pairsVerdict, pairBits, laid};
 
 // What a frame is, or the number that refuses it. Its pairs stand beside it, in Parsed.
@@ -338,6 +340,64 @@ pub fn read(bytes: &[u8]) -> Parsed
         return refusal(1);
     }
     read_fields(bytes)
+}
+
+// What a search asks for: the length of its list, and its terms with their weights; or the number that refuses it, and all else 0.
+pub struct Asked {
+    pub number: u32,
+    pub k: u32,
+    pub n: usize,
+    pub terms: [u32; 16],
+    pub weights: [u32; 16],
+}
+
+fn not_asked(number: u32) -> Asked
+    ensures { λ r. ⌜ AskedPost (refused number) r ⌝ }
+{
+    Asked {
+        number,
+        k: 0,
+        n: 0,
+        terms: [0u32; 16],
+        weights: [0u32; 16],
+    }
+}
+
+// The number that refuses a search whose frame is refused: a malformed frame of another kind is of another kind first. One too short to have a kind
+// keeps its number.
+fn asked_refusal(bytes: &[u8], number: u32) -> u32
+    ensures { λ r. ⌜ r ≡ askedNumber (now (bytes .entry)) number ⌝ }
+{
+    if 5 <= bytes.len() {
+        let kind = wire::take_bits(bytes, 0, 4);
+        if kind != 3 {
+            return 2;
+        }
+    }
+    number
+}
+
+// What the bytes ask for as the frame of a search, which is a registration's; its time and number are ignored.
+pub fn read_asked(bytes: &[u8]) -> Asked
+    ensures { λ r. ⌜ AskedPost (asked (now (bytes .entry))) r ⌝ }
+{
+    let parsed = read(bytes);
+    let what = parsed.what;
+    if let Kind::Refused(number) = what {
+        return not_asked(asked_refusal(bytes, number));
+    }
+    let Kind::Register { k, terms: n, .. } = what else {
+        return not_asked(2);
+    };
+    let terms = parsed.terms;
+    let weights = parsed.amounts;
+    Asked {
+        number: 0,
+        k,
+        n,
+        terms,
+        weights,
+    }
 }
 
 // What a writing answers: 0 and the frame's length in bytes, or the refusal and 0.

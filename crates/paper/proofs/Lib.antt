@@ -7,6 +7,8 @@ pub mod CancelLaws
 pub mod SortLaws
 pub mod RankLaws
 pub mod ThresholdLaws
+pub mod Steps
+pub mod SearchLaws
 pub mod LeadLaws
 pub mod PlaceLaws
 pub mod MarkLaws

@@ -199,6 +199,12 @@ places-before log t more sound h = vacating-staying (log .N) (log .T) (log .cloc
 pub places-at : (log : Log) (t : ℕ) → keeps log t 0 ≡ filledAt log t
 places-at log t = staying-none (log .N) (log .T) t (log .messages)
 
+-- nothing noted as cancelled
+pub noting-none : (off : ℕ → Message → Bool) → ((j : ℕ) (m : Message) → off j m ≡ false) → (l : List Message) → noting off l ≡ l
+unfolding noting
+noting-none off never [] = refl
+noting-none off never (m ∷ l) = rw (never (length l) m, noting-none off never l)
+
 -- a frame that cancels nothing
 module _ (log : Log) (f : Frame) (none : (j : ℕ) (m : Message) → cancels log f j m ≡ false) (sound : Sound log) (ok : judgeFrame log f ≡ 0) where
   abbrev more : ℕ
@@ -213,15 +219,11 @@ module _ (log : Log) (f : Frame) (none : (j : ℕ) (m : Message) → cancels log
   stays-places = remaining-staying (log .N) (log .T) (log .clock) (timeOf f) more (cancels log f) none (time-from-clock log f sound ok) (log .messages)
 
   pub places-after : filledNow (accept log f) ≡ keeps log (timeOf f) more ++ arrivals f
-  unfolding accept noting
+  unfolding accept
   places-after =
-      ap (λ (l : List Message). filled (log .N) (log .T) (timeOf f) (l ++ arrivals f)) (noting-none (log .messages))
+      ap (λ (l : List Message). filled (log .N) (log .T) (timeOf f) (l ++ arrivals f)) (noting-none (cancels log f) none (log .messages))
       ∙ filled-append (log .N) (log .T) (timeOf f) (log .messages) (arrivals f)
       ∙ ap (λ (l : List Message). keeps log (timeOf f) more ++ l) (arrive (log .N) (log .T) f (sound .N-least) .1)
-    where
-      noting-none : (l : List Message) → noting (cancels log f) l ≡ l
-      noting-none [] = refl
-      noting-none (m ∷ l) = rw (none (length l) m, noting-none l)
 
 -- no two share a serial as time goes on
 pub distinct-at : (log : Log) (t : ℕ) → Sound log → log .clock ≤ t → Distinct (inForceAt log t)

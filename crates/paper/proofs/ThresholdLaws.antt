@@ -19,7 +19,7 @@ use Rattle.paper.specs.Sort.{select, sort}
 use Rattle.paper.specs.Rank.{Query, Entry, ahead, entry, scoring, entries, ranking, lines, serials}
 use Rattle.paper.specs.Threshold.{termAt, thresholdSum, Exceeds, exceedsBy, exceeds, candidates, reached, lastScore, Tight, Kept, Settled}
 use Rattle.paper.proofs.Tests.{by-bool, or-false, or-true}
-use Rattle.paper.proofs.SortLaws.{in-left, in-right, select-all, select-in, select-take, select-select, select-change, select-map, count-sort, best}
+use Rattle.paper.proofs.SortLaws.{in-left, in-right, select-all, select-in, select-take, select-among, select-select, select-change, select-map, count-sort, best}
 use Rattle.paper.proofs.FrameLaws.{level-most}
 use Rattle.paper.proofs.RankLaws.{ranking-length, ranking-last}
 
@@ -194,7 +194,7 @@ scored-above q s ms =
 
 -- messages among which all candidates are
 module _ (q : Query) (hs : List ℕ) (one-each : length hs ≡ length (q .terms)) (test : Message → Bool)
-    (covers : (m : Message) → exceeds (q .terms) hs (m .pairs) ≡ true → test m ≡ true) (ms : List Message) where
+    (ms : List Message) (covers : (m : Message) → In m ms → exceeds (q .terms) hs (m .pairs) ≡ true → test m ≡ true) where
   abbrev those : List Message
   those = select test ms
 
@@ -206,16 +206,25 @@ module _ (q : Query) (hs : List ℕ) (one-each : length hs ≡ length (q .terms)
   candidates-above =
       scored-above q sum those
       ∙ ap (map (entry (score (q .terms))))
-      (select-select (high q sum) test (λ m p. covers m (above-exceeds (q .terms) hs (m .pairs) one-each (omega (arith, ltb-true)))) ms)
+      (select-among (high q sum) test ms (λ m i p. covers m i (above-exceeds (q .terms) hs (m .pairs) one-each (omega (arith, ltb-true)))))
       ∙ sym (scored-above q sum ms)
 
   -- ranking them is enough, where their list is safe ..
-  pub candidates-enough : Safe sum (q .k) (ranking q those) → ranking q those ≡ ranking q ms
-  candidates-enough = ranking-agrees q sum those ms candidates-above
+  pub those-enough : Safe sum (q .k) (ranking q those) → ranking q those ≡ ranking q ms
+  those-enough = ranking-agrees q sum those ms candidates-above
 
   -- .. or the list of all is
-  pub candidates-keep : Safe sum (q .k) (ranking q ms) → ranking q those ≡ ranking q ms
-  candidates-keep safe = sym (ranking-agrees q sum ms those (sym candidates-above) safe)
+  pub those-keep : Safe sum (q .k) (ranking q ms) → ranking q those ≡ ranking q ms
+  those-keep safe = sym (ranking-agrees q sum ms those (sym candidates-above) safe)
+
+-- the same by a test that every candidate passes, of whatever messages
+module _ (q : Query) (hs : List ℕ) (one-each : length hs ≡ length (q .terms)) (test : Message → Bool)
+    (covers : (m : Message) → exceeds (q .terms) hs (m .pairs) ≡ true → test m ≡ true) (ms : List Message) where
+  pub candidates-enough : Safe (thresholdSum (q .terms) hs) (q .k) (ranking q (select test ms)) → ranking q (select test ms) ≡ ranking q ms
+  candidates-enough = those-enough q hs one-each test ms (λ m i. covers m)
+
+  pub candidates-keep : Safe (thresholdSum (q .terms) hs) (q .k) (ranking q ms) → ranking q (select test ms) ≡ ranking q ms
+  candidates-keep = those-keep q hs one-each test ms (λ m i. covers m)
 
 -- ---- settled queries
 

@@ -1,17 +1,19 @@
 -- The starred cases of document 01, "Worked passages", under document 02's age rule (T-01); C8, which moves with that rule; cancellations (T-02);
--- urgencies (T-04); and rows for the order of the refusals 1 to 6 and 14: as one table. proofs/CasesHold.antt has its one theorem.
+-- urgencies (T-04); searches (T-05); and rows for the order of the refusals 1 to 6 and 14: as one table. proofs/CasesHold.antt has its one theorem.
 -- Assumes nothing.
 use Prim.Native.Nat.{ℕ, suc}
 use mathlib.Core.List.{List, [], _∷_, _++_, map}
+use lib.ListN.{take}
 use Rattle.paper.specs.Frame.{Pair, Frame, Shape, encode, shape}
 use Rattle.paper.specs.Frame.Frame.{message, tick, register, unregister, cancel}
 use Rattle.paper.specs.Frame.Urgency.{routine, important, vital}
 use Rattle.paper.specs.Frame.Form.{ungraded, graded}
 use Rattle.paper.specs.Frame.Shape.{refused, accepted}
 use Rattle.paper.specs.Impact.{impactIn}
-use Rattle.paper.specs.Rank.{Line}
+use Rattle.paper.specs.Rank.{Line, lines}
 use Rattle.paper.specs.Layout.{stateLength}
 use Rattle.paper.specs.Log.{Log, Call, fresh, judge, after, departures, listed}
+use Rattle.paper.specs.Search.{Outcome, judgeSearch, found}
 
 pub data Case : Type 0 where
   -- the counts of a message's terms; the impact of each
@@ -22,6 +24,8 @@ pub data Case : Type 0 where
   judging : List ℕ → ℕ → Case
   -- N, T and frames; after each its number, its departures, and serial and score of each entry of query 0's list
   passage : ℕ → ℕ → List (List ℕ) → List (List ℕ) → Case
+  -- N, T and frames, and the bytes of a search after them; its number, its postings read, and serial and score of each entry found
+  searching : ℕ → ℕ → List (List ℕ) → List ℕ → List ℕ → Case
 
 -- ---- what the definitions give for a case
 
@@ -53,17 +57,28 @@ run log [] = []
 run log (b ∷ bs) =
     (judge 0 log (call b) ∷ departures 0 log (call b) ∷ listAfter (after 0 log (call b))) ∷ run (after 0 log (call b)) bs
 
+-- a log after frames
+abbrev pub fed : Log → List (List ℕ) → Log
+fed log [] = log
+fed log (b ∷ bs) = fed (after 0 log (call b)) bs
+
+abbrev pub told : Outcome → List ℕ
+told r = r .read ∷ flat (lines (r .list))
+
 abbrev pub computed : Case → List (List ℕ)
 computed (impacts fs ws) = impactsOf (numbered 0 fs) ∷ []
 computed (spelling f bytes) = encode f ∷ (numberOf (shape bytes) ∷ []) ∷ []
 computed (judging bytes r) = (numberOf (shape bytes) ∷ []) ∷ []
 computed (passage N T frames told) = run (fresh N T) frames
+computed (searching N T frames bytes answer) =
+    (judgeSearch 0 bytes stateLength 0 ∷ told (found 0 (fed (fresh N T) frames) bytes stateLength 0)) ∷ []
 
 abbrev pub expected : Case → List (List ℕ)
 expected (impacts fs ws) = ws ∷ []
 expected (spelling f bytes) = bytes ∷ (0 ∷ []) ∷ []
 expected (judging bytes r) = (r ∷ []) ∷ []
 expected (passage N T frames told) = told
+expected (searching N T frames bytes answer) = answer ∷ []
 
 -- ---- the table
 
@@ -156,6 +171,21 @@ tieLeftOut =
     ∷ message 50 5 (graded vital) (at 5 1 ∷ at 6 1 ∷ [])
     ∷ cancel 60 3
     ∷ [])
+
+-- a search for these terms
+abbrev pub ask : ℕ → List Pair → List ℕ
+ask k ps = encode (register 0 0 k ps)
+
+-- C10's first five frames
+abbrev pub c10Start : List (List ℕ)
+c10Start = take 5 c10
+
+-- Term 5 and term 9 come first with the same weight × impact, in two messages, and in one and another.
+abbrev pub oneEach : List (List ℕ)
+oneEach = map encode (message 10 1 ungraded (at 5 1 ∷ []) ∷ message 20 2 ungraded (at 9 1 ∷ []) ∷ [])
+
+abbrev pub bothInOne : List (List ℕ)
+bothInOne = map encode (message 10 1 ungraded (at 5 1 ∷ at 9 1 ∷ []) ∷ message 20 2 ungraded (at 9 1 ∷ at 40 1 ∷ []) ∷ [])
 
 unfoldable pub table : List Case
 table =
@@ -258,6 +288,21 @@ table =
     ∷ (0 ∷ 1 ∷ 3 ∷ 1000 ∷ 4 ∷ 1000 ∷ [])
     ∷ (0 ∷ 1 ∷ 4 ∷ 1000 ∷ 5 ∷ 707 ∷ [])
     ∷ [])
+    -- T-05: after C10's first five frames
+    ∷ searching 3 100 c10Start (ask 1 (at 5 1 ∷ at 9 2 ∷ [])) (0 ∷ 1 ∷ 3 ∷ 1414 ∷ [])
+    ∷ searching 3 100 c10Start (ask 2 (at 5 1 ∷ at 9 2 ∷ [])) (0 ∷ 2 ∷ 3 ∷ 1414 ∷ 2 ∷ 1000 ∷ [])
+    ∷ searching 3 100 c10Start (ask 3 (at 5 1 ∷ at 9 2 ∷ [])) (0 ∷ 3 ∷ 3 ∷ 1414 ∷ 2 ∷ 1000 ∷ 4 ∷ 447 ∷ [])
+    ∷ searching 3 100 c10Start (ask 2 (at 40 1 ∷ [])) (0 ∷ 1 ∷ 3 ∷ 707 ∷ [])
+    ∷ searching 3 100 c10Start (ask 1 (at 7 1 ∷ [])) (0 ∷ 0 ∷ [])
+    -- a score that equals the sum is not above it; the lower of two equal terms first; two postings of one message
+    ∷ searching 3 100 oneEach (ask 1 (at 5 1 ∷ at 9 1 ∷ [])) (0 ∷ 2 ∷ 2 ∷ 1000 ∷ [])
+    ∷ searching 3 100 bothInOne (ask 1 (at 5 1 ∷ at 9 1 ∷ [])) (0 ∷ 1 ∷ 1 ∷ 1414 ∷ [])
+    ∷ searching 3 100 bothInOne (ask 2 (at 5 1 ∷ at 9 1 ∷ [])) (0 ∷ 3 ∷ 1 ∷ 1414 ∷ 2 ∷ 707 ∷ [])
+    -- a message, whole or not, is 2; a registration with a weight of 0 is 5
+    ∷ searching 3 100 c10Start (encode (message 20 2 ungraded (at 5 1 ∷ []))) (2 ∷ 0 ∷ [])
+    ∷ searching 3 100 c10Start (0x10 ∷ 0x00 ∷ 0x00 ∷ 0x00 ∷ 0x00 ∷ []) (2 ∷ 0 ∷ [])
+    ∷ searching 3 100 c10Start (0x10 ∷ 0x00 ∷ 0x00 ∷ 0x00 ∷ []) (1 ∷ 0 ∷ [])
+    ∷ searching 3 100 c10Start (0x30 ∷ 0x00 ∷ 0x00 ∷ 0x00 ∷ 0x00 ∷ 0x09 ∷ 0x02 ∷ 0x40 ∷ 0x05 ∷ 0x00 ∷ []) (5 ∷ 0 ∷ [])
     -- "Order for a frame": of all that is wrong the first is told. Each row mends one thing of the row above.
     ∷ judging (0x00 ∷ 0x00 ∷ 0x00 ∷ 0x00 ∷ []) 1
     ∷ judging (0x00 ∷ 0x00 ∷ 0x00 ∷ 0x00 ∷ 0x00 ∷ 0x09 ∷ 0x02 ∷ 0x40 ∷ 0x05 ∷ 0x01 ∷ 0x00 ∷ []) 2

@@ -9,5 +9,6 @@ pub mod Threshold
 pub mod Layout
 pub mod Log
 pub mod Demand3
+pub mod Search
 pub mod Cases
 pub mod Sound

@@ -2,7 +2,7 @@
 use Prim.Native.Nat.{ℕ, zero, suc, _+_, _-_, _*_, _/_, _%_, _≤_, _<_}
 use native.Mathlib.Nat.{not-suc-le-zero}
 use native.Mathlib.Omega.{arith}
-use mathlib.Core.Path.{_≡_, refl, sym, _∙_}
+use mathlib.Core.Path.{_≡_, refl, sym, ap, _∙_}
 use mathlib.Core.Bool.{Bool, true, false}
 use mathlib.Core.List.{List, [], _∷_}
 use lib.ListN.{length, getD, take, drop, length-take, length-drop, List·getD-eq-default}
@@ -20,6 +20,8 @@ use Rattle.paper.proofs.Tests.{and-true}
 use Rattle.impact.proofs.CellLaws.{rising-side}
 use Rattle.rank.specs.Weights.{weightLimit}
 use Rattle.candidates.specs.declared.Query.{Query}
+use Rattle.candidates.specs.Post.{termsOf}
+use Rattle.candidates.proofs.TermLaws.{side-at}
 use Rattle.query.specs.Record.{Says}
 use Rattle.query.specs.Post.{Clamped, InRange, Is, LoadedQuery, LoadedThresholds}
 use Rattle.query.proofs.FillLaws.{Filled}
@@ -37,7 +39,7 @@ Term pair t = t ≡ pair / weightLimit
 abbrev pub Weight : ℕ → ℕ → Type 0
 Weight pair u = Clamped 1 (weightLimit - 1) (pair % weightLimit) u
 
-weight-range : (qs : List Pair) → AllFit weightWidth qs → positive qs ≡ true → (i : ℕ) → i < length qs → (1 ≤ weightAt qs i) × (weightAt qs i < weightLimit)
+pub weight-range : (qs : List Pair) → AllFit weightWidth qs → positive qs ≡ true → (i : ℕ) → i < length qs → (1 ≤ weightAt qs i) × (weightAt qs i < weightLimit)
 unfolding positive weightAt
 weight-range [] a e i h = absurd (not-suc-le-zero h)
 weight-range (q ∷ qs) a e zero h = (ltb-true 0 (q .amount) (and-true (ltb 0 (q .amount)) (positive qs) e .0), a .1)
@@ -60,6 +62,19 @@ side-is (q ∷ qs) (t ∷ ts) (u ∷ us) h k e =
     let first = e 0 (omega arith) in
     let rest = side-is qs ts us (omega arith) (omega arith) (λ i l. e (suc i) (omega arith)) in
     rw (first .0, first .1, rest) refl
+
+-- arrays that hold a query's terms and weights
+pub is-by : {r : Query} {query : Rank.Query} → Terms query → r .k ≡ query .k → r .n ≡ length (query .terms) → r .n ≤ length (r .terms) → r .n ≤ length (r .weights)
+    → termsOf r ≡ query .terms → Is r query
+is-by {r} {query} v k n ht hu pairs = record {
+  k = k;
+  n = n;
+  terms = pairs;
+  rising = rising-side {w = weightWidth} {most = mostTerms} (r .n) (r .terms) (r .weights) ht hu (rw pairs (v .terms));
+  known = λ i h.
+      let s = side-at (r .n) (r .terms) (r .weights) i (omega (arith, ap length pairs)) in
+      omega (arith, s .1, ap (λ (qs : List Pair). termAt qs i) pairs, term-range (query .terms) (v .terms .fit) i (omega arith));
+}
 
 -- a pair's word is taken apart again
 apart : {p t u : ℕ} → u < weightLimit → p ≡ t * weightLimit + u → (p / weightLimit ≡ t) × (p % weightLimit ≡ u)
@@ -91,15 +106,8 @@ module _ (w : List ℕ) (q : ℕ) (r : Query) (k : Clamped 0 mostListed (getD w 
         let most = v .terms .at-most in
         let size = says .size in
         let e : r .n ≡ length (query .terms) = n .is (omega arith) (omega arith) ∙ size in
-        let pairs : side-by-side (r .n) (r .terms) (r .weights) ≡ query .terms =
-        rw e (side-is (query .terms) (r .terms) (r .weights) (omega (arith, ts .wide)) (omega (arith, us .wide)) pair-is) in
-        record {
-          k = k .is (omega arith) (omega (arith, says .k, v .k-most)) ∙ says .k;
-          n = e;
-          terms = pairs;
-          rising = rising-side {w = weightWidth} {most = mostTerms} (r .n) (r .terms) (r .weights) (omega (arith, ts .wide)) (omega (arith, us .wide)) (rw pairs (v .terms));
-          known = λ i h. let l : i < length (query .terms) = omega arith in omega (arith, pair-is i l .0, term-range (query .terms) (v .terms .fit) i l);
-        }
+        is-by v (k .is (omega arith) (omega (arith, says .k, v .k-most)) ∙ says .k) e (omega (arith, ts .wide)) (omega (arith, us .wide))
+        (rw e (side-is (query .terms) (r .terms) (r .weights) (omega (arith, ts .wide)) (omega (arith, us .wide)) pair-is))
 
   pub loaded-query : LoadedQuery w q r
   loaded-query = record { in-range = in-range; is = is-query }

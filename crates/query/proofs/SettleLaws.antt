@@ -310,7 +310,7 @@ last-positive query ms h =
 -- ---- from the whole window, or from the candidates
 
 -- the list of slots that hold messages is those messages' ranking
-listed-is : {r : Query} {query : Rank.Query} (w js : List ℕ) (ms : List Message) → Is r query → map (slot w) js ≡ map stored ms → Messages ms
+pub listed-is : {r : Query} {query : Rank.Query} (w js : List ℕ) (ms : List Message) → Is r query → map (slot w) js ≡ map stored ms → Messages ms
     → grows (r .k) [] (map (lineIn w r) js) ≡ keyed (ranking query ms)
 listed-is {r} {query} w js ms is e v =
     ap₂ (λ (k : ℕ) (qs : List Pair). grows k [] (map (λ j. scored qs (slot w j)) js)) (is .k) (is .terms)

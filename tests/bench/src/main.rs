@@ -13,6 +13,7 @@ mod proved;
 mod reading;
 mod report;
 mod rows;
+mod search;
 mod tables;
 mod workload;
 
@@ -23,10 +24,11 @@ fn main() {
     match arguments.iter().map(String::as_str).collect::<Vec<_>>()[..] {
         [] => report::print(PLOT),
         ["--count"] => count::print(),
+        ["--search"] => search::print(),
         ["--earlier", path] => report::beside_earlier(path),
         [path] if !path.starts_with('-') => report::print(path),
         _ => {
-            eprintln!("usage: bench [--count | --earlier LIBRARY.so | PLOT.svg]");
+            eprintln!("usage: bench [--count | --search | --earlier LIBRARY.so | PLOT.svg]");
             std::process::exit(2);
         }
     }

@@ -1,7 +1,7 @@
 //! The proved engine, as a C host calls it: of the archive that the bench is linked with, or of an earlier one.
 
 use crate::plain::Method;
-use fennelrake_tests::engine::{word, FRAME_ANSWER, LIST_ANSWER, STATE};
+use fennelrake_tests::engine::{word, FRAME_ANSWER, LIST_ANSWER, SEARCH_ANSWER, STATE};
 use std::ffi::{c_char, c_int, c_void, CStr, CString};
 use std::marker::PhantomData;
 use std::sync::OnceLock;
@@ -14,6 +14,7 @@ extern "C" {
     fn fennelrake_start(state: *mut u8, state_len: usize, capacity: u32, life: u32) -> u32;
     fn fennelrake_frame(state: *mut u8, state_len: usize, bytes: *const u8, bytes_len: usize, answer: *mut u8, answer_len: usize) -> u32;
     fn fennelrake_list(state: *const u8, state_len: usize, number: u32, answer: *mut u8, answer_len: usize) -> u32;
+    fn fennelrake_search(state: *const u8, state_len: usize, frame: *const u8, frame_len: usize, answer: *mut u8, answer_len: usize) -> u32;
     fn dlopen(path: *const c_char, flags: c_int) -> *mut c_void;
     fn dlsym(library: *mut c_void, name: *const c_char) -> *mut c_void;
 }
@@ -79,6 +80,17 @@ pub struct Engine<A> {
 }
 
 pub type Proved = Engine<Linked>;
+
+impl Proved {
+    /// The answer of a search, which an earlier archive may not have.
+    pub fn search(&self, bytes: &[u8]) -> [u8; SEARCH_ANSWER] {
+        let mut answer = [0; SEARCH_ANSWER];
+        // SAFETY: each pointer and length are of one slice, and the slices don't overlap
+        let number = unsafe { fennelrake_search(self.state.as_ptr(), STATE, bytes.as_ptr(), bytes.len(), answer.as_mut_ptr(), SEARCH_ANSWER) };
+        assert_eq!(number, 0);
+        answer
+    }
+}
 
 impl<A: Archive> Method for Engine<A> {
     fn start(capacity: usize, life: u32) -> Self {

@@ -1,8 +1,10 @@
 //! The passages that are measured: queries first, then messages a second apart, each pushing the oldest out once N are there; or, once N are there,
 //! departures alone. Messages are of kind 1, as earlier archives take them too, but for those that rank by urgency.
 
+use crate::plain::impact;
 use fennelrake_tests::random::Random;
 use passage::Frame;
+use std::collections::BTreeSet;
 
 /// How many terms there are in all, and how many of them messages and queries then share.
 pub const SHARED: [(u64, &str); 3] = [(1024, "few"), (400, "some"), (40, "many")];
@@ -52,6 +54,12 @@ fn rising(r: &mut Random, n: u64, terms: u64, most: u64) -> Vec<(u32, u32)> {
     ts.into_iter().map(|t| (t, 1 + r.below(most) as u32)).collect()
 }
 
+/// A query as the passages have them: its k and its terms.
+pub fn query(r: &mut Random, terms: u64) -> (usize, Vec<(u32, u32)>) {
+    let (k, n) = (1 + r.below(8) as usize, 1 + r.below(5));
+    (k, rising(r, n, terms, 15))
+}
+
 impl Passage {
     /// With so many messages after those that fill the window.
     pub fn new(setting: Setting, messages: usize, seed: u64) -> Self {
@@ -85,14 +93,33 @@ impl Passage {
     fn filling(setting: Setting, more: usize, count: u64, urgency: Urgency, r: &mut Random) -> Vec<Vec<u8>> {
         let mut frames = Vec::new();
         for number in 0..setting.queries {
-            let (k, n) = (1 + r.below(8) as usize, 1 + r.below(5));
-            frames.push(Frame::Register { time: 0, number, k, terms: rising(r, n, setting.terms, 15) }.bytes());
+            let (k, terms) = query(r, setting.terms);
+            frames.push(Frame::Register { time: 0, number, k, terms }.bytes());
         }
         for i in 0..(setting.capacity + more) as u32 {
             let n = 4 + r.below(9);
             frames.push(Frame::Message { time: i + 1, serial: i, urgency: urgency(i), pairs: rising(r, n, setting.terms, count) }.bytes());
         }
         frames
+    }
+
+    /// Messages alone, which fill the window: each has every term, and no two have the same impact in one.
+    pub fn dear(setting: Setting, seed: u64) -> Self {
+        let mut r = Random::new(seed);
+        let mut taken = vec![BTreeSet::new(); setting.terms as usize];
+        let mut frames = Vec::new();
+        while frames.len() < setting.capacity {
+            let counts: Vec<u16> = taken.iter().map(|_| 1 + r.below(255) as u16).collect();
+            let squares = counts.iter().map(|&c| (c as u32).pow(2)).sum();
+            let impacts: Vec<u16> = counts.iter().map(|&c| impact(c, squares)).collect();
+            if taken.iter().zip(&impacts).any(|(t, w)| t.contains(w)) {
+                continue;
+            }
+            taken.iter_mut().zip(impacts).for_each(|(t, w)| assert!(t.insert(w)));
+            let (i, pairs) = (frames.len() as u32, counts.iter().enumerate().map(|(t, &c)| (t as u32, c as u32)).collect());
+            frames.push(Frame::Message { time: i + 1, serial: i, urgency: None, pairs }.bytes());
+        }
+        Passage { setting, life: 65535, frames }
     }
 
     /// The frames that fill the window, and those after them, which are measured.

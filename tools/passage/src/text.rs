@@ -11,7 +11,8 @@
 //! bytes 20 00 00 07 81                    a frame of any bytes, in hexadecimal
 //! ```
 //!
-//! What follows a `#` and empty lines are left out.
+//! What follows a `#` and empty lines are left out. A search is no line: a session takes frames alone, and a host asks for one by the bytes of a
+//! register frame.
 
 use crate::Frame;
 

@@ -1,0 +1,56 @@
+-- `search` meets its contract. Assumes nothing.
+use native.Mathlib.Omega.{arith}
+use mathlib.Core.Path.{_≡_}
+use lib.ListN.{length}
+use borrow.Author.Needs.{needs}
+use Rattle.paper.specs.Layout.{stateLength}
+use Rattle.frame.proofs.AskLaws.{Question, question}
+use Rattle.engine.proofs.SearchLaws.{search-not-lent, search-refused, asked-fit, search-right}
+use Rattle.engine.proofs.search.Statement.{statement}
+use Rattle.engine.proofs.search.Tie as tie
+
+returns : tie.Need-returns
+returns c = search-not-lent _ _ _ (λ e. omega arith) (c .unanswered .ensures)
+
+returns-2 : tie.Need-returns-2
+returns-2 c =
+    let r = c .before .before .before in
+    search-refused _ _ _ _ (omega arith) (r .read-asked .ensures) (λ e. omega arith) (c .unanswered2 .ensures)
+
+-- what is asked for, and the first eight of its terms and weights
+abbrev read-of : tie.After-load → tie.After-read-asked
+read-of l = l .before .before .before .before .before .before .before .before
+
+asks : (l : tie.After-load) → Question (read-of l .before .before .before .before .args .bytes .now) (read-of l .read-asked .result)
+asks l = question _ _ (read-of l .read-asked .ensures) (omega arith)
+
+long : (l : tie.After-load) → length (read-of l .before .before .before .before .args .state .now) ≡ stateLength
+long l = omega arith
+
+search-requires : tie.Need-search-requires
+search-requires c κs =
+    let u = c .before in
+    (long c, c .load .ensures .oldest-below, c .load .ensures .count-below, asked-fit (asks c) (u .before .first-eight .ensures) (u .first-eight2 .ensures))
+
+returns-3 : tie.Need-returns-3
+returns-3 c =
+    let l = c .before .before in
+    let u = l .before in
+    search-right (asks l) (u .before .first-eight .ensures) (u .first-eight2 .ensures) _ (long l) (l .load .ensures) (c .before .search .ensures) (c .of .ensures)
+
+pub search-spec : {M : Type 1} → statement M
+search-spec =
+    tie.close
+    (tie.spec
+    (λ c κs. search needs)
+    returns
+    (λ c κs. search needs)
+    (λ c κs. search needs)
+    returns-2
+    (λ c. search needs)
+    (λ c κs. search needs)
+    (λ c κs. search needs)
+    (λ c κs. search needs)
+    search-requires
+    (λ c κs. search needs)
+    returns-3)

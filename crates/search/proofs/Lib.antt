@@ -1,0 +1,4 @@
+pub mod SumLaws
+pub mod CutLaws
+pub mod ColumnLaws
+pub mod FoundLaws
