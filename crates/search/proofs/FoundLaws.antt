@@ -7,8 +7,8 @@ use mathlib.Core.Path.{_≡_, refl, sym, ap, _∙_, subst}
 use mathlib.Core.Bool.{Bool, true, false, cond}
 use mathlib.Core.Logic.{⊎-elim}
 use mathlib.Core.List.{List, [], _∷_, _++_, map, map-map, map-append}
-use lib.ListN.{length, getD, take, length-map, List·getD-map, List·getD-eq-default}
-use lib.Seq.{take-suc, take-all, length-take-le}
+use lib.ListN.{length, getD, take, drop, length-map, length-drop, List·getD-map, List·getD-eq-default}
+use lib.Seq.{length-take-le, getD-take, getD-drop, ext-getD}
 use lib.Dec.{eqb, leb, ltb}
 use borrow.Author.Tests.{ltb-true}
 use Rattle.paper.specs.Frame.{Pair, mostTerms}
@@ -44,7 +44,7 @@ use Rattle.query.specs.Post.{Is, Over}
 use Rattle.query.proofs.QueryLaws.{weight-range}
 use Rattle.query.proofs.SettleLaws.{lt-or-ge, Sixteen, count-is, last-is, last-positive, listed-is}
 use Rattle.search.specs.Cut.{height, upTo, over, sumAt, readAt}
-use Rattle.search.specs.Post.{Fit, column, sumBy, readBy, heightLimit, EndsAt, ReadFor}
+use Rattle.search.specs.Post.{Fit, Columns, column, sumBy, readBy, heightLimit, ReadFor}
 use Rattle.search.proofs.SumLaws.{over-append, over-positive, over-sort, upTo-append, upTo-positive, upTo-sort, sum-agree, read-agree, cut-none}
 use Rattle.search.proofs.CutLaws.{cut-steps}
 
@@ -62,14 +62,6 @@ alike-then x y = record { up-to = λ c. x .up-to c ∙ y .up-to c; over-it = λ 
 
 alike-back : {a b : List ℕ} → Alike a b → Alike b a
 alike-back x = record { up-to = λ c. sym (x .up-to c); over-it = λ c. sym (x .over-it c) }
-
--- one more, before the one and after the other
-alike-more : (v : ℕ) (a b : List ℕ) → Alike a b → Alike (v ∷ a) (b ++ (v ∷ []))
-unfolding upTo over
-alike-more v a b x = record {
-  up-to = λ c. omega (arith, x .up-to c, upTo-append c b (v ∷ []));
-  over-it = λ c. omega (arith, x .over-it c, over-append c b (v ∷ []));
-}
 
 -- 0 left out, and another order
 alike-positive : (l : List ℕ) → Alike (select (ltb 0) l) l
@@ -145,6 +137,11 @@ live-having {w} {r} js =
     all : (l : List ℕ) → select (λ j. true) l ≡ l
     all l = select-all (λ j. true) l (λ j i. refl)
 
+map-at : (f : ℕ → ℕ) (l : List ℕ) (i : ℕ) → i < length l → getD (map f l) i 0 ≡ f (getD l i 0)
+map-at f [] i h = absurd (omega arith)
+map-at f (x ∷ l) zero h = refl
+map-at f (x ∷ l) (suc i) h = map-at f l i (omega arith)
+
 module _ (w : List ℕ) (r : Query) (rising : Rising r) (known : Known r) (p : ℕ) (l : p < r .n) where
   abbrev impact : ℕ → ℕ
   impact j = lookup (getD (r .terms) p 0) (slot w j .cells)
@@ -153,19 +150,26 @@ module _ (w : List ℕ) (r : Query) (rising : Rising r) (known : Known r) (p : �
   alike-having {js} h =
       alike-then (alike-same (ap (map impact) (h .kept))) (alike-select impact (h .test) (λ j e. h .silent rising known j e p l) js)
 
-  alike-column : {js rows : List ℕ} → Rows w js r rows → (i : ℕ) → i ≤ length js → Alike (column rows i p) (map impact (take i js))
-  unfolding column
-  alike-column looked zero h = alike-same refl
-  alike-column {js} looked (suc i) h =
-      rw (looked .right rising known i (omega arith) p l, take-suc js i 0 (omega arith), map-append impact (take i js) (getD js i 0 ∷ []))
-      (alike-more (impact (getD js i 0)) _ _ (alike-column looked i (omega arith)))
+  -- a column has the impacts of the slots that were looked at
+  column-are : {js rows cols : List ℕ} → Rows w js r rows → Columns rows (length js) (r .n) cols → r .n ≤ mostTerms → length js ≤ slots
+      → column cols (length js) p ≡ map impact js
+  column-are {js} {rows} {cols} looked c few room =
+      ext-getD 0 (column cols (length js) p) (map impact js) (size ∙ sym (length-map js impact))
+      (λ i h. let k : i < length js = omega (arith, size) in
+      getD-take (length js) (drop (slots * p) cols) i 0 k
+      ∙ getD-drop (slots * p) cols i 0
+      ∙ c .are p i l k
+      ∙ looked .right rising known i k p l
+      ∙ sym (map-at impact js i k))
+    where
+      size : length (column cols (length js) p) ≡ length js
+      size = length-take-le (length js) (drop (slots * p) cols) (simp length-drop (omega (arith, c .long)))
 
-  -- the column of the slots picked is that of the live ones
-  alike-live : {js all rows : List ℕ} → Having w r all js → Rows w js r rows → Alike (column rows (length js) p) (map impact (live w all))
-  alike-live {js} {all} picked looked =
-      alike-then (alike-column looked (length js) (omega arith))
-      (alike-then (alike-same (ap (map impact) (take-all (length js) js (omega arith))))
-      (alike-then (alike-having picked) (alike-back (alike-having (live-having all)))))
+  -- that of the slots picked is that of the live ones
+  alike-live : {js all rows cols : List ℕ} → Having w r all js → Rows w js r rows → Columns rows (length js) (r .n) cols → r .n ≤ mostTerms → length js ≤ slots
+      → Alike (column cols (length js) p) (map impact (live w all))
+  alike-live {all = all} picked looked c few room =
+      alike-then (alike-same (column-are looked c few room)) (alike-then (alike-having picked) (alike-back (alike-having (live-having all))))
 
 -- the impacts of slots that hold messages are theirs
 held-impacts : (w js : List ℕ) (ms : List Message) (t : ℕ) → Messages ms → map (slot w) js ≡ map stored ms
@@ -240,44 +244,46 @@ module _ {w rows js : List ℕ} {first count : ℕ} {r : Query} {list : Ranked} 
   pub found-list : keyedOf list ≡ keyed (search q ms .list)
   found-list = listed ∙ ap keyed (sym (search-list q ms terms distinct))
 
-  -- a column is the impacts of a term's postings
-  alike : (p : ℕ) → p < r .n → Alike (column rows (length js) p) (getD (lists ms (q .terms)) p [])
-  alike p l =
-      let t = getD (r .terms) p 0 in
-      alike-then (alike-live w r (is .rising) (is .known) p l picked looked)
-      (alike-then (alike-same (held-impacts w (live w (ring first count)) ms t (over .valid) (over .shows)))
-      (alike-then (alike-back (alike-postings t ms))
-      (alike-same (ap (λ (t : ℕ). scores (postings t ms)) (sym (at-place is p l .0)) ∙ sym (list-at ms (q .terms) p (omega (arith, is .n)))))))
+  -- the postings read, by columns of what was looked at
+  module _ (n : ℕ) {cols : List ℕ} (fit : Fit r) (long : Sixteen list) (room : length js ≤ slots) (columns : Columns rows (length js) (r .n) cols)
+      (read : ReadFor cols (length js) r list n) where
+    -- a column is the impacts of a term's postings
+    alike : (p : ℕ) → p < r .n → Alike (column cols (length js) p) (getD (lists ms (q .terms)) p [])
+    alike p l =
+        let t = getD (r .terms) p 0 in
+        alike-then (alike-live w r (is .rising) (is .known) p l picked looked columns (fit .n-most) room)
+        (alike-then (alike-same (held-impacts w (live w (ring first count)) ms t (over .valid) (over .shows)))
+        (alike-then (alike-back (alike-postings t ms))
+        (alike-same (ap (λ (t : ℕ). scores (postings t ms)) (sym (at-place is p l .0)) ∙ sym (list-at ms (q .terms) p (omega (arith, is .n)))))))
 
-  abbrev weights : List ℕ
-  weights = map (λ x. x .amount) (q .terms)
+    abbrev weights : List ℕ
+    weights = map (λ x. x .amount) (q .terms)
 
-  abbrev impacts : ℕ → List ℕ
-  impacts p = getD (lists ms (q .terms)) p []
+    abbrev impacts : ℕ → List ℕ
+    impacts p = getD (lists ms (q .terms)) p []
 
-  same-size : r .n ≡ length weights
-  same-size = is .n ∙ sym (length-map (q .terms) (λ x. x .amount))
+    same-size : r .n ≡ length weights
+    same-size = is .n ∙ sym (length-map (q .terms) (λ x. x .amount))
 
-  same-weight : (p : ℕ) → p < r .n → getD (r .weights) p 0 ≡ getD weights p 0
-  unfolding weightAt
-  same-weight p l = sym (at-place is p l .1) ∙ sym (List·getD-map (λ x. x .amount) (q .terms) p (record { term = 0; amount = 0 }))
+    same-weight : (p : ℕ) → p < r .n → getD (r .weights) p 0 ≡ getD weights p 0
+    unfolding weightAt
+    same-weight p l = sym (at-place is p l .1) ∙ sym (List·getD-map (λ x. x .amount) (q .terms) p (record { term = 0; amount = 0 }))
 
-  sums : (x : ℕ) → sumBy rows (length js) r x ≡ sumAt (length weights) weights impacts x
-  sums x = rw (← same-size) (sum-agree (r .n) (r .weights) weights (column rows (length js)) impacts same-weight x (λ p l c. alike p l .up-to c))
+    sums : (x : ℕ) → sumBy cols (length js) r x ≡ sumAt (length weights) weights impacts x
+    sums x = rw (← same-size) (sum-agree (r .n) (r .weights) weights (column cols (length js)) impacts same-weight x (λ p l c. alike p l .up-to c))
 
-  reads : (x : ℕ) → readBy rows (length js) r x ≡ readAt (length weights) weights impacts x
-  reads x = rw (← same-size) (read-agree (r .n) (r .weights) weights (column rows (length js)) impacts same-weight x (λ p l c. alike p l .over-it c))
+    reads : (x : ℕ) → readBy cols (length js) r x ≡ readAt (length weights) weights impacts x
+    reads x = rw (← same-size) (read-agree (r .n) (r .weights) weights (column cols (length js)) impacts same-weight x (λ p l c. alike p l .over-it c))
 
-  same-lists : length (lists ms (q .terms)) ≡ length weights
-  same-lists =
-      length-map (postingsOf (q .terms) ms) scores
-      ∙ length-map (q .terms) (λ x. postings (x .term) ms)
-      ∙ sym (length-map (q .terms) (λ x. x .amount))
+    same-lists : length (lists ms (q .terms)) ≡ length weights
+    same-lists =
+        length-map (postingsOf (q .terms) ms) scores
+        ∙ length-map (q .terms) (λ x. postings (x .term) ms)
+        ∙ sym (length-map (q .terms) (λ x. x .amount))
 
-  positive : (p v : ℕ) → In v (impacts p) → 0 < v
-  positive p = each-list ms (λ l. (v : ℕ) → In v l → 0 < v) (λ v i. absurd i) (λ t. postings-positive t ms) (q .terms) p
+    positive : (p v : ℕ) → In v (impacts p) → 0 < v
+    positive p = each-list ms (λ l. (v : ℕ) → In v l → 0 < v) (λ v i. absurd i) (λ t. postings-positive t ms) (q .terms) p
 
-  module _ (n : ℕ) (fit : Fit r) (long : Sixteen list) (read : ReadFor rows (length js) r list n) where
     counted : list .count ≡ length (ranking q ms)
     counted = count-is (ranking q ms) long listed
 

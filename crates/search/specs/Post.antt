@@ -1,9 +1,10 @@
 -- What the functions of the search ensure. Assumes nothing.
-use Prim.Native.Nat.{ℕ, zero, suc, _+_, _*_, _≤_, _<_}
+use Prim.Native.Nat.{ℕ, _+_, _*_, _≤_, _<_}
 use mathlib.Core.Path.{_≡_}
-use mathlib.Core.List.{List, [], _∷_}
-use lib.ListN.{getD}
+use mathlib.Core.List.{List}
+use lib.ListN.{length, getD, take, drop}
 use Rattle.paper.specs.Frame.{mostTerms, mostListed}
+use Rattle.paper.specs.Layout.{slots}
 use Rattle.paper.specs.Impact.{top}
 use Rattle.paper.specs.Window.{Message}
 use Rattle.paper.specs.Rank as Rank
@@ -25,30 +26,39 @@ pub record Fit (r : Query) : Type 0 where
   pub weights-least : (p : ℕ) → p < r .n → 1 ≤ getD (r .weights) p 0
   pub weights-most : Below (r .n) weightLimit (r .weights)
 
--- the impacts in the term at place p of the first m messages looked at, the last of them first
-unfoldable pub column : List ℕ → ℕ → ℕ → List ℕ
-column rows zero p = []
-column rows (suc i) p = getD rows (rowWidth * i + 1 + p) 0 ∷ column rows i p
+-- one column: the impacts of the first m messages looked at in the term at place p
+pub record Column (rows : List ℕ) (m p : ℕ) (xs : List ℕ) : Type 0 where
+  pub long : length xs ≡ m
+  pub are : (i : ℕ) → i < m → getD xs i 0 ≡ getD rows (rowWidth * i + 1 + p) 0
+
+-- those of the first n terms, each with room for all of the window
+pub record Columns (rows : List ℕ) (m n : ℕ) (cols : List ℕ) : Type 0 where
+  pub long : length cols ≡ mostTerms * slots
+  pub are : (p i : ℕ) → p < n → i < m → getD cols (slots * p + i) 0 ≡ getD rows (rowWidth * i + 1 + p) 0
+
+abbrev pub column : List ℕ → ℕ → ℕ → List ℕ
+column cols m p = take m (drop (slots * p) cols)
 
 abbrev pub sumBy : List ℕ → ℕ → Query → ℕ → ℕ
-sumBy rows m r x = sumAt (r .n) (r .weights) (column rows m) x
+sumBy cols m r x = sumAt (r .n) (r .weights) (column cols m) x
 
 abbrev pub readBy : List ℕ → ℕ → Query → ℕ → ℕ
-readBy rows m r x = readAt (r .n) (r .weights) (column rows m) x
+readBy cols m r x = readAt (r .n) (r .weights) (column cols m) x
 
 -- no posting is as high: a weight times an impact is below this
 abbrev pub heightLimit : ℕ
 heightLimit = weightLimit * top * mostTerms
 
 -- where a search ends that has to come below a score: the next postings sum to less there, and to no less at any cut above
-pub record EndsAt (rows : List ℕ) (m : ℕ) (r : Query) (s x : ℕ) : Type 0 where
-  pub below : 0 < s → sumBy rows m r x < s
-  pub above : (z : ℕ) → x < z → z < heightLimit → s ≤ sumBy rows m r z
+pub record EndsAt (cols : List ℕ) (m : ℕ) (r : Query) (s x : ℕ) : Type 0 where
+  pub inside : x < heightLimit
+  pub below : 0 < s → sumBy cols m r x < s
+  pub above : (z : ℕ) → x < z → z < heightLimit → s ≤ sumBy cols m r z
 
 -- the postings read for this list: all of a list that isn't full
-pub record ReadFor (rows : List ℕ) (m : ℕ) (r : Query) (list : Ranked) (n : ℕ) : Type 0 where
-  pub full : list .count ≡ r .k → (x : ℕ) × EndsAt rows m r (lastScoreOf (keyedOf list)) x × (n ≡ readBy rows m r x)
-  pub short : (list .count ≡ r .k → ⊥) → n ≡ readBy rows m r 0
+pub record ReadFor (cols : List ℕ) (m : ℕ) (r : Query) (list : Ranked) (n : ℕ) : Type 0 where
+  pub full : list .count ≡ r .k → (x : ℕ) × EndsAt cols m r (lastScoreOf (keyedOf list)) x × (n ≡ readBy cols m r x)
+  pub short : (list .count ≡ r .k → ⊥) → n ≡ readBy cols m r 0
 
 -- the search over the window that is `count` slots from slot `first` on
 pub record WindowSearch (w : List ℕ) (first count : ℕ) (r : Query) (found : Outcome) : Type 0 where

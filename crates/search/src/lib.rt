@@ -4,13 +4,15 @@
 // the next postings sum to less. Postings are read by falling height, so that place is found by halving, and what stands above it is counted.
 ghost use mathlib.Core.Path.{_≡_};
 ghost use Prim.Native.Nat.{_*_, _<_, _≤_, max};
+ghost use mathlib.Core.Bool.{cond};
 ghost use lib.ListN.{length};
+ghost use lib.Dec.{leb};
 ghost use Rattle.paper.specs.Frame.{mostTerms, mostListed};
 ghost use Rattle.paper.specs.Layout.{stateLength, slots};
 ghost use Rattle.memory.specs.Words.{words};
-ghost use Rattle.window.specs.Rows.{rowWidth, Narrow};
+ghost use Rattle.window.specs.Rows.{rowWidth};
 ghost use Rattle.search.specs.Cut as cut;
-ghost use Rattle.search.specs.Post.{Fit, column, sumBy, readBy, EndsAt, ReadFor, WindowSearch};
+ghost use Rattle.search.specs.Post.{Fit, heightLimit, Column, Columns, sumBy, readBy, EndsAt, ReadFor, WindowSearch};
 use candidates::Query;
 use paper::layout;
 use rank::Ranked;
@@ -20,21 +22,91 @@ const MOST_TERMS: u32 = paper::MOST_TERMS as u32;
 // No posting is as high: a weight has four bits.
 const HEIGHT_LIMIT: u32 = 16 * impact::Impact::TOP * MOST_TERMS;
 
+// Columns of impacts for all terms, with a place for each message of the window.
+const COLUMNS: usize = paper::MOST_TERMS * layout::SLOTS;
+
 pub struct Outcome {
     pub list: Ranked,
     pub read: u32,
 }
 
+// The impacts of the messages looked at in the term at place p, one after the other: a column is gone through many times.
+fn put_column(rows: &[u16], p: usize, column: &mut [u16])
+    requires { ⌜ (length (now rows) ≡ rowWidth * slots) × (length (now column) ≤ slots) × (p < mostTerms) ⌝ }
+    ensures { λ _. ⌜ Column (now (rows .entry)) (length (now (column .entry))) p (now (column .exit)) ⌝ }
+{
+    let mut i: usize = 0;
+    while i < column.len() {
+        column[i] = rows[candidates::ROW * i + 1 + p];
+        i += 1;
+    }
+}
+
+// The columns of the first m messages looked at in the first n terms.
+fn put_columns(rows: &[u16], m: usize, n: usize, columns: &mut [u16])
+    requires { ⌜ (length (now rows) ≡ rowWidth * slots) × (m ≤ slots) × (n ≤ mostTerms) × (length (now columns) ≡ mostTerms * slots) ⌝ }
+    ensures { λ _. ⌜ Columns (now (rows .entry)) m n (now (columns .exit)) ⌝ }
+{
+    let mut p: usize = 0;
+    while p < n {
+        let start = layout::SLOTS * p;
+        put_column(rows, p, &mut columns[start..start + m]);
+        p += 1;
+    }
+}
+
 // The greatest impact in the term at place p, of this weight, whose posting isn't above the cut.
-fn cap(at: u32, p: usize, weight: u32) -> u32
-    requires { ⌜ (p < mostTerms) × (1 ≤ weight) ⌝ }
+fn cap(at: u32, p: usize, weight: u32) -> u16
+    requires { ⌜ (at < heightLimit) × (p < mostTerms) × (1 ≤ weight) ⌝ }
     ensures { λ r. ⌜ r ≡ cut.cap at p weight ⌝ }
 {
     let least = MOST_TERMS - 1 - p as u32;
     if at < least {
         return 0;
     }
-    (at - least) / MOST_TERMS / weight
+    ((at - least) / MOST_TERMS / weight) as u16
+}
+
+// An impact that is at most the cap, else 0. Without a branch where it is put in place, and so is the next.
+fn capped(x: u16, cap: u16) -> u16
+    ensures { λ r. ⌜ r ≡ cond (leb x cap) x 0 ⌝ }
+{
+    if x <= cap { x } else { 0 }
+}
+
+fn greater(a: u16, b: u16) -> u16
+    ensures { λ r. ⌜ r ≡ max a b ⌝ }
+{
+    if a < b { b } else { a }
+}
+
+// The next impact in a term once all above the cap are read: the greatest of its column that is at most the cap.
+fn next_impact(column: &[u16], cap: u16) -> u16
+    ensures { λ r. ⌜ r ≡ cut.upTo cap (now (column .entry)) ⌝ }
+{
+    let mut next: u16 = 0;
+    let mut i: usize = 0;
+    while i < column.len() {
+        next = greater(next, capped(column[i], cap));
+        i += 1;
+    }
+    next
+}
+
+// How many impacts of a column are above the cap.
+fn count_over(column: &[u16], cap: u16) -> u32
+    requires { ⌜ length (now column) ≤ slots ⌝ }
+    ensures { λ r. ⌜ (r ≡ cut.over cap (now (column .entry))) × (r ≤ slots) ⌝ }
+{
+    let mut count: u32 = 0;
+    let mut i: usize = 0;
+    while i < column.len() {
+        if cap < column[i] {
+            count += 1;
+        }
+        i += 1;
+    }
+    count
 }
 
 fn wide(x: u16) -> u32
@@ -43,52 +115,10 @@ fn wide(x: u16) -> u32
     x as u32
 }
 
-// The greater of two where the second is at most a cap, else the first.
-fn greater(a: u32, b: u32, cap: u32) -> u32
-    ensures { λ r. ⌜ (b ≤ cap → r ≡ max a b) × (cap < b → r ≡ a) ⌝ }
-{
-    if cap < b {
-        return a;
-    }
-    if a < b { b } else { a }
-}
-
-// The next impact in the term at place p once all above the cap are read: the greatest of the first m messages looked at that is at most the cap.
-fn next_impact(rows: &[u16], m: usize, p: usize, cap: u32) -> u32
-    requires { ⌜ (length (now rows) ≡ rowWidth * slots) × (m ≤ slots) × (p < mostTerms) ⌝ }
-    ensures { λ r. ⌜ (r ≡ cut.upTo cap (column (now (rows .entry)) m p)) × (r < 65536) ⌝ }
-{
-    let mut next: u32 = 0;
-    let mut i: usize = 0;
-    while i < m {
-        let impact = wide(rows[candidates::ROW * i + 1 + p]);
-        next = greater(next, impact, cap);
-        i += 1;
-    }
-    next
-}
-
-// How many of the first m messages looked at have an impact above the cap in the term at place p.
-fn count_over(rows: &[u16], m: usize, p: usize, cap: u32) -> u32
-    requires { ⌜ (length (now rows) ≡ rowWidth * slots) × (m ≤ slots) × (p < mostTerms) ⌝ }
-    ensures { λ r. ⌜ (r ≡ cut.over cap (column (now (rows .entry)) m p)) × (r ≤ m) ⌝ }
-{
-    let mut count: u32 = 0;
-    let mut i: usize = 0;
-    while i < m {
-        let impact = wide(rows[candidates::ROW * i + 1 + p]);
-        if cap < impact {
-            count += 1;
-        }
-        i += 1;
-    }
-    count
-}
-
 // The sum of weight × impact of the next postings once all above the cut are read.
-fn sum_at(rows: &[u16], m: usize, query: Query, at: u32) -> u32
-    requires { ⌜ (length (now rows) ≡ rowWidth * slots) × (m ≤ slots) × Fit query ⌝ }
-    ensures { λ r. ⌜ r ≡ sumBy (now (rows .entry)) m query at ⌝ }
+fn sum_at(columns: &[u16], m: usize, query: Query, at: u32) -> u32
+    requires { ⌜ (length (now columns) ≡ mostTerms * slots) × (m ≤ slots) × Fit query × (at < heightLimit) ⌝ }
+    ensures { λ r. ⌜ r ≡ sumBy (now (columns .entry)) m query at ⌝ }
 {
     let n = query.n;
     let weights = query.weights;
@@ -96,38 +126,40 @@ fn sum_at(rows: &[u16], m: usize, query: Query, at: u32) -> u32
     let mut p: usize = 0;
     while p < n {
         let weight = weights[p];
-        sum += weight * next_impact(rows, m, p, cap(at, p, weight));
+        let start = layout::SLOTS * p;
+        sum += weight * wide(next_impact(&columns[start..start + m], cap(at, p, weight)));
         p += 1;
     }
     sum
 }
 
 // How many postings are above the cut.
-fn read_at(rows: &[u16], m: usize, query: Query, at: u32) -> u32
-    requires { ⌜ (length (now rows) ≡ rowWidth * slots) × (m ≤ slots) × Fit query ⌝ }
-    ensures { λ r. ⌜ r ≡ readBy (now (rows .entry)) m query at ⌝ }
+fn read_at(columns: &[u16], m: usize, query: Query, at: u32) -> u32
+    requires { ⌜ (length (now columns) ≡ mostTerms * slots) × (m ≤ slots) × Fit query × (at < heightLimit) ⌝ }
+    ensures { λ r. ⌜ r ≡ readBy (now (columns .entry)) m query at ⌝ }
 {
     let n = query.n;
     let weights = query.weights;
     let mut count: u32 = 0;
     let mut p: usize = 0;
     while p < n {
-        count += count_over(rows, m, p, cap(at, p, weights[p]));
+        let start = layout::SLOTS * p;
+        count += count_over(&columns[start..start + m], cap(at, p, weights[p]));
         p += 1;
     }
     count
 }
 
-// The highest cut below which the next postings sum to less than the score: the search ends there.
-fn end_cut(rows: &[u16], m: usize, query: Query, score: u32) -> u32
-    requires { ⌜ (length (now rows) ≡ rowWidth * slots) × (m ≤ slots) × Fit query ⌝ }
-    ensures { λ r. ⌜ EndsAt (now (rows .entry)) m query score r ⌝ }
+// The highest cut at which the next postings sum to less than the score: the search ends there.
+fn end_cut(columns: &[u16], m: usize, query: Query, score: u32) -> u32
+    requires { ⌜ (length (now columns) ≡ mostTerms * slots) × (m ≤ slots) × Fit query ⌝ }
+    ensures { λ r. ⌜ EndsAt (now (columns .entry)) m query score r ⌝ }
 {
     let mut low: u32 = 0;
     let mut high = HEIGHT_LIMIT;
     while 1 < high - low {
         let middle = (low + high) / 2;
-        if sum_at(rows, m, query, middle) < score {
+        if sum_at(columns, m, query, middle) < score {
             low = middle;
         } else {
             high = middle;
@@ -137,15 +169,15 @@ fn end_cut(rows: &[u16], m: usize, query: Query, score: u32) -> u32
 }
 
 // How many postings are read for this list: all of them where it isn't full.
-fn postings_read(rows: &[u16], m: usize, query: Query, list: Ranked) -> u32
-    requires { ⌜ (length (now rows) ≡ rowWidth * slots) × (m ≤ slots) × Fit query × (list .count ≤ mostListed) ⌝ }
-    ensures { λ r. ⌜ ReadFor (now (rows .entry)) m query list r ⌝ }
+fn postings_read(columns: &[u16], m: usize, query: Query, list: Ranked) -> u32
+    requires { ⌜ (length (now columns) ≡ mostTerms * slots) × (m ≤ slots) × Fit query × (list .count ≤ mostListed) ⌝ }
+    ensures { λ r. ⌜ ReadFor (now (columns .entry)) m query list r ⌝ }
 {
     if list.count != query.k {
-        return read_at(rows, m, query, 0);
+        return read_at(columns, m, query, 0);
     }
-    let end = end_cut(rows, m, query, rank::last_score(list));
-    read_at(rows, m, query, end)
+    let end = end_cut(columns, m, query, rank::last_score(list));
+    read_at(columns, m, query, end)
 }
 
 // The search over the window that is `count` slots from slot `first` on.
@@ -158,8 +190,10 @@ pub fn search(state: &[u8], first: usize, count: usize, query: Query) -> Outcome
     let mut rows = [0u16; candidates::ROWS];
     candidates::look(state, &picked, m, query, &mut rows);
     let list = candidates::ranked_rows(state, &picked, m, &rows, query);
+    let mut columns = [0u16; COLUMNS];
+    put_columns(&rows, m, query.n, &mut columns);
     Outcome {
         list,
-        read: postings_read(&rows, m, query, list),
+        read: postings_read(&columns, m, query, list),
     }
 }

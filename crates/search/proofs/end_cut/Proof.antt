@@ -10,21 +10,21 @@ use Rattle.search.proofs.end_cut.Tie as tie
 
 -- the sum is less at the low cut, and no less at any from the high one on
 abbrev Inv-loop : tie.InvT-loop
-Inv-loop rows m query score low₀ high₀ low high =
+Inv-loop columns m query score low₀ high₀ low high =
     (low < high)
     × (high ≤ heightLimit)
-    × (0 < score → sumBy rows m query low < score)
-    × ((z : ℕ) → high ≤ z → z < heightLimit → score ≤ sumBy rows m query z)
+    × (0 < score → sumBy columns m query low < score)
+    × ((z : ℕ) → high ≤ z → z < heightLimit → score ≤ sumBy columns m query z)
 
 abbrev μ-loop : tie.MeasureT-loop
-μ-loop rows m query score low₀ high₀ low high = high - low
+μ-loop columns m query score low₀ high₀ low high = high - low
 
 loop-holds : tie.Need-loop-holds Inv-loop μ-loop
 loop-holds c =
     let a = c .before .args in (
       omega arith,
       omega arith,
-      λ h. omega (arith, sum-none (a .query .n) (a .query .weights) (column (a .rows .now) (a .m))),
+      λ h. omega (arith, sum-none (a .query .n) (a .query .weights) (column (a .columns .now) (a .m))),
       λ z h l. absurd (omega arith),
     )
 
@@ -39,13 +39,13 @@ loop-again-2 c =
     let r = c .before in
     let l = r .before .before .loop in
     let a = r .before .before .before .before .args in
-    let rises = sum-rises (a .query .n) (a .query .weights) (column (a .rows .now) (a .m)) in
+    let rises = sum-rises (a .query .n) (a .query .weights) (column (a .columns .now) (a .m)) in
     (omega arith, omega (arith, l .inv .1), l .inv .2, λ z h m. omega (arith, r .sum-at .ensures, rises _ z h))
 
 returns : tie.Need-returns Inv-loop μ-loop
 returns c =
     let l = c .before .loop in
-    record { below = l .inv .2; above = λ z h m. l .inv .3 z (omega arith) m }
+    record { inside = omega (arith, l .inv .1); below = l .inv .2; above = λ z h m. l .inv .3 z (omega arith) m }
 
 pub end-cut-spec : {M : Type 1} → statement M
 end-cut-spec =

@@ -1,41 +1,37 @@
 -- `next_impact` meets its contract. Assumes nothing.
-use Prim.Native.Nat.{_-_, _≤_, _<_}
+use Prim.Native.Nat.{_-_, _≤_}
 use native.Mathlib.Omega.{arith}
-use mathlib.Core.Path.{_≡_, refl}
-use mathlib.Core.Logic.{⊎-elim}
+use mathlib.Core.Path.{_≡_, refl, ap, _∙_}
+use lib.ListN.{length, take}
+use lib.Seq.{take-all}
 use borrow.Author.Needs.{needs}
 use Rattle.search.specs.Cut.{upTo}
-use Rattle.search.specs.Post.{column}
-use Rattle.search.proofs.ColumnLaws.{at-most-or-above, up-to-turn}
+use Rattle.search.proofs.ColumnLaws.{up-to-turn}
 use Rattle.search.proofs.next_impact.Statement.{statement}
 use Rattle.search.proofs.next_impact.Tie as tie
 
 abbrev Inv-loop : tie.InvT-loop
-Inv-loop rows m p cap next₀ i₀ next i = (i ≤ m) × (next < 65536) × (next ≡ upTo cap (column rows i p))
+Inv-loop column cap next₀ i₀ next i = (i ≤ length column) × (next ≡ upTo cap (take i column))
 
 abbrev μ-loop : tie.MeasureT-loop
-μ-loop rows m p cap next₀ i₀ next i = m - i
+μ-loop column cap next₀ i₀ next i = length column - i
 
 loop-holds : tie.Need-loop-holds Inv-loop μ-loop
-unfolding upTo column
-loop-holds c = (omega arith, omega arith, refl)
+unfolding upTo
+loop-holds c = (omega arith, refl)
 
 loop-again : tie.Need-loop-again Inv-loop μ-loop
 loop-again c =
-    let r = c .before in
-    let l = r .before .before .before .loop in
-    let a = r .before .before .before .before .before .args in
-    let g = c .greater .ensures in (
-      omega arith,
-      ⊎-elim (λ h. omega (arith, r .wide .ensures .1, g .0 h)) (λ h. omega (arith, g .1 h)) (at-most-or-above (r .wide .result) (a .cap)),
-      up-to-turn (a .rows .now) (l .i) (a .p) (a .cap) (l .inv .2) (r .wide .ensures .0) g,
-    )
+    let t = c .before in
+    let l = t .before .before .before .loop in
+    let a = t .before .before .before .before .before .args in
+    (omega arith, up-to-turn (a .column .now) (l .i) (a .cap) (omega arith) (l .inv .1) (t .capped .ensures) (c .greater .ensures))
 
 returns : tie.Need-returns Inv-loop μ-loop
 returns c =
     let l = c .before .loop in
-    let e : l .i ≡ c .before .before .before .args .m = omega arith in
-    (rw (← e) (l .inv .2), l .inv .1)
+    let a = c .before .before .before .args in
+    l .inv .1 ∙ ap (upTo (a .cap)) (take-all (l .i) (a .column .now) (omega arith))
 
 pub next-impact-spec : {M : Type 1} → statement M
 next-impact-spec =
@@ -44,9 +40,6 @@ next-impact-spec =
     Inv-loop
     μ-loop
     loop-holds
-    (λ c. search needs)
-    (λ c. search needs)
-    (λ c. search needs)
     (λ c. search needs)
     (λ c. search needs)
     (λ c κs. search needs)

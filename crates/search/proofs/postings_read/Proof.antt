@@ -16,7 +16,7 @@ returns-2 c =
     let s = e .before in
     let a = s .before .before .before .before .before .args in
     record {
-      full = λ _. (e .end-cut .result, subst (λ (v : ℕ). EndsAt (a .rows .now) (a .m) (a .query) v (e .end-cut .result)) (s .last-score .ensures) (e .end-cut .ensures), c .read-at2 .ensures);
+      full = λ _. (e .end-cut .result, subst (λ (v : ℕ). EndsAt (a .columns .now) (a .m) (a .query) v (e .end-cut .result)) (s .last-score .ensures) (e .end-cut .ensures), c .read-at2 .ensures);
       short = λ n. absurd (n (omega arith));
     }
 

@@ -50,27 +50,37 @@ sixteen r = record {
   keys = search (needs, length-unmapped);
 }
 
+put-columns-requires : tie.Need-put-columns-requires
+put-columns-requires c κs =
+    let r = c .before .before in
+    let h = having-of r in
+    (look-of r .look .ensures .long, few h, start-of h .pre .3 .n-most, search needs)
+
 postings-read-requires : tie.Need-postings-read-requires
 postings-read-requires c κs =
-    let r = c .before in
+    let p = c .before .before in
+    let r = p .before .before .before in
     let h = having-of r in
-    (look-of r .look .ensures .long, few h, start-of h .pre .3, sixteen r .most)
+    (p .put-columns .ensures .long, few h, start-of h .pre .3, sixteen r .most)
 
 returns : tie.Need-returns
 returns c =
-    let r = c .before .before in
+    let p = c .before .before .before in
+    let r = p .before .before .before in
     let h = having-of r in
     let picked = h .having .ensures in
     let fit = start-of h .pre .3 in
     let looked = look-of r .look .ensures .right in
     let ranked = r .ranked-rows .ensures in
+    let size = picked-size picked (few h) in
     record {
       most = sixteen r .most;
       tidy = ranked .tidy;
       right = λ ms q over distinct terms is.
           let js = having-shares (picked .right (is .rising) (is .known)) in (
             found-list js looked ranked over distinct terms is,
-            found-read js looked ranked over distinct terms is (c .postings-read .result) fit (sixteen r) (rw (picked-size picked (few h)) (c .postings-read .ensures)),
+            found-read js looked ranked over distinct terms is (c .postings-read .result) {cols = p .put-columns .last .1 .1 .1 .0} fit (sixteen r)
+                (omega (arith, size, few h)) (rw size (p .put-columns .ensures)) (rw size (c .postings-read .ensures)),
           );
     }
 
@@ -86,6 +96,9 @@ search-spec =
     (λ c. search needs)
     (λ c. search needs)
     ranked-rows-requires
+    (λ c. search needs)
+    (λ c. search needs)
+    put-columns-requires
     (λ c. search needs)
     postings-read-requires
     returns)
