@@ -5,19 +5,15 @@ use mathlib.Core.Path.{_≡_, refl, sym, ap, _∙_}
 use mathlib.Core.List.{List, map}
 use lib.ListN.{length, take}
 use lib.Seq.{length-take-le}
-use lib.Dec.{eqb}
 use borrow.Author.Tests.{eq-eqb, ne-eqb}
-use Rattle.paper.specs.Frame.{Pair}
 use Rattle.paper.specs.Layout.{stateLength}
-use Rattle.paper.specs.Rank as Rank
-use Rattle.paper.specs.Rank.{lines}
 use Rattle.paper.specs.Log.{Log, inForceNow, seen}
-use Rattle.paper.specs.Search.{asked, refusalOf, queryIn, judgeSearch, found}
+use Rattle.paper.specs.Search.{asked, refusalOf, judgeSearch, found}
 use Rattle.paper.specs.Search as Search
 use Rattle.paper.proofs.LogLaws.{in-force-valid}
 use Rattle.memory.specs.Words.{words}
 use Rattle.rank.specs.declared.Lines.{Lines}
-use Rattle.rank.specs.Listing.{linesOf, shown, NoLine, Shows}
+use Rattle.rank.specs.Listing.{shown, NoLine, Shows}
 use Rattle.rank.proofs.PaperLaws.{shown-keyed}
 use Rattle.window.specs.Cursor.{Loaded}
 use Rattle.candidates.specs.declared.Query.{Query}
@@ -25,7 +21,7 @@ use Rattle.query.specs.Post.{Is, Over}
 use Rattle.query.proofs.QueryLaws.{is-by}
 use Rattle.frame.specs.declared.Asked.{Asked}
 use Rattle.frame.specs.Ask.{AskedPost}
-use Rattle.frame.proofs.AskLaws.{Question, question}
+use Rattle.frame.proofs.AskLaws.{Question}
 use Rattle.search.specs.declared.Outcome.{Outcome}
 use Rattle.search.specs.Post.{Fit, WindowSearch}
 use Rattle.search.proofs.FoundLaws.{fit-by}

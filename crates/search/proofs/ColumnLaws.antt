@@ -7,13 +7,12 @@ use mathlib.Core.Path.{_≡_, sym, ap, _∙_}
 use mathlib.Core.Bool.{cond}
 use mathlib.Core.Logic.{⊎-elim}
 use mathlib.Core.List.{List, [], _∷_, _++_}
-use lib.ListN.{length, getD, take, drop, length-append, length-take, length-drop}
+use lib.ListN.{length, getD, take, drop, length-append, length-drop}
 use lib.Seq.{take-suc, take-at, take-append-seam, length-take-le, getD-take, getD-append-add}
 use lib.Dec.{leb}
 use borrow.Author.Tests.{lt-ltb, le-ltb}
 use Rattle.paper.specs.Frame.{mostTerms}
 use Rattle.paper.specs.Layout.{slots}
-use Rattle.window.specs.Rows.{rowWidth}
 use Rattle.search.specs.Post.{Column, Columns, column}
 use Rattle.search.specs.Cut.{cap, upTo, over, sumAt, readAt}
 use Rattle.search.proofs.SumLaws.{upTo-append, over-append}
@@ -68,8 +67,8 @@ module _ (cols : List ℕ) (m p : ℕ) where
   pub part-is : part ≡ column cols m p
   part-is = let e : slots * p + m - slots * p ≡ m = omega arith in rw e
 
-  pub part-most : length part ≤ m
-  part-most = omega (arith, length-take (slots * p + m - slots * p) (drop (slots * p) cols))
+  pub part-long : slots * p + m ≤ length cols → length part ≡ m
+  part-long h = ap length part-is ∙ length-take-le m (drop (slots * p) cols) (simp length-drop (omega arith))
 
 -- ---- one impact more
 

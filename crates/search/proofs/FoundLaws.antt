@@ -1,12 +1,11 @@
 -- From rows of the window to the postings of paper: the list and the number of postings read are those of paper's search. Assumes nothing.
-use Prim.Native.Nat.{ℕ, zero, suc, _+_, _*_, _≤_, _<_}
+use Prim.Native.Nat.{ℕ, zero, suc, _*_, _≤_, _<_}
 use native.Mathlib.Nat.{mul-le-mul, eq-or-lt-of-le}
-use native.Mathlib.Numerals.{add-one}
 use native.Mathlib.Omega.{arith}
 use mathlib.Core.Path.{_≡_, refl, sym, ap, _∙_, subst}
-use mathlib.Core.Bool.{Bool, true, false, cond}
+use mathlib.Core.Bool.{Bool, true, false}
 use mathlib.Core.Logic.{⊎-elim}
-use mathlib.Core.List.{List, [], _∷_, _++_, map, map-map, map-append}
+use mathlib.Core.List.{List, [], _∷_, map, map-map}
 use lib.ListN.{length, getD, take, drop, length-map, length-drop, List·getD-map, List·getD-eq-default}
 use lib.Seq.{length-take-le, getD-take, getD-drop, ext-getD}
 use lib.Dec.{eqb, leb, ltb}
@@ -45,7 +44,7 @@ use Rattle.query.proofs.QueryLaws.{weight-range}
 use Rattle.query.proofs.SettleLaws.{lt-or-ge, Sixteen, count-is, last-is, last-positive, listed-is}
 use Rattle.search.specs.Cut.{height, upTo, over, sumAt, readAt}
 use Rattle.search.specs.Post.{Fit, Columns, column, sumBy, readBy, heightLimit, ReadFor}
-use Rattle.search.proofs.SumLaws.{over-append, over-positive, over-sort, upTo-append, upTo-positive, upTo-sort, sum-agree, read-agree, cut-none}
+use Rattle.search.proofs.SumLaws.{over-positive, over-sort, upTo-positive, upTo-sort, sum-agree, read-agree, cut-none}
 use Rattle.search.proofs.CutLaws.{cut-steps}
 
 -- ---- lists that are the same to every cut

@@ -1,7 +1,6 @@
 -- `end_cut` meets its contract. Assumes nothing.
 use Prim.Native.Nat.{ℕ, _-_, _≤_, _<_}
 use native.Mathlib.Omega.{arith}
-use mathlib.Core.Path.{_≡_}
 use borrow.Author.Needs.{needs}
 use Rattle.search.specs.Post.{column, sumBy, heightLimit}
 use Rattle.search.proofs.SumLaws.{sum-none, sum-rises}

@@ -7,7 +7,7 @@ use borrow.Author.Needs.{needs}
 use Rattle.paper.specs.Layout.{slots}
 use Rattle.search.specs.Cut.{cap, over, readAt}
 use Rattle.search.specs.Post.{column}
-use Rattle.search.proofs.ColumnLaws.{part-is, part-most, read-turn}
+use Rattle.search.proofs.ColumnLaws.{part-is, part-long, read-turn}
 use Rattle.search.proofs.read_at.Statement.{statement}
 use Rattle.search.proofs.read_at.Tie as tie
 
@@ -40,7 +40,7 @@ count-over-requires : tie.Need-count-over-requires Inv-loop μ-loop
 count-over-requires c κs =
     let l = c .before .before in
     let a = start-of l .args in
-    omega (arith, part-most (a .columns .now) (a .m) (l .before .loop .p), start-of l .pre .1)
+    omega (arith, part-long (a .columns .now) (a .m) (l .before .loop .p) (omega (arith, inside l, start-of l .pre .0, start-of l .pre .1)), start-of l .pre .1)
 
 -- a turn, from what it counts
 abbrev turn-of : tie.After-count-over Inv-loop μ-loop → tie.In-loop Inv-loop μ-loop

@@ -1,7 +1,7 @@
 -- `search` meets its contract. Assumes nothing.
 use Prim.Native.Nat.{_≤_}
 use native.Mathlib.Omega.{arith}
-use mathlib.Core.Path.{_≡_, refl}
+use mathlib.Core.Path.{refl}
 use borrow.Author.Needs.{needs, length-unmapped}
 use Rattle.paper.specs.Layout.{slots}
 use Rattle.candidates.proofs.FlagLaws.{zero-at}
