@@ -187,6 +187,10 @@ oneEach = map encode (message 10 1 ungraded (at 5 1 ∷ []) ∷ message 20 2 ung
 abbrev pub bothInOne : List (List ℕ)
 bothInOne = map encode (message 10 1 ungraded (at 5 1 ∷ at 9 1 ∷ []) ∷ message 20 2 ungraded (at 9 1 ∷ at 40 1 ∷ []) ∷ [])
 
+-- Two postings of one message come before the first of another.
+abbrev pub twiceOne : List (List ℕ)
+twiceOne = map encode (message 10 1 ungraded (at 5 1 ∷ at 9 1 ∷ []) ∷ message 20 2 ungraded (at 40 1 ∷ []) ∷ [])
+
 unfoldable pub table : List Case
 table =
     -- C1
@@ -294,10 +298,11 @@ table =
     ∷ searching 3 100 c10Start (ask 3 (at 5 1 ∷ at 9 2 ∷ [])) (0 ∷ 3 ∷ 3 ∷ 1414 ∷ 2 ∷ 1000 ∷ 4 ∷ 447 ∷ [])
     ∷ searching 3 100 c10Start (ask 2 (at 40 1 ∷ [])) (0 ∷ 1 ∷ 3 ∷ 707 ∷ [])
     ∷ searching 3 100 c10Start (ask 1 (at 7 1 ∷ [])) (0 ∷ 0 ∷ [])
-    -- a score that equals the sum is not above it; the lower of two equal terms first; two postings of one message
+    -- a score that equals the sum is not above it; the lower of two equal terms first; two postings of one message are one message seen
     ∷ searching 3 100 oneEach (ask 1 (at 5 1 ∷ at 9 1 ∷ [])) (0 ∷ 2 ∷ 2 ∷ 1000 ∷ [])
     ∷ searching 3 100 bothInOne (ask 1 (at 5 1 ∷ at 9 1 ∷ [])) (0 ∷ 1 ∷ 1 ∷ 1414 ∷ [])
     ∷ searching 3 100 bothInOne (ask 2 (at 5 1 ∷ at 9 1 ∷ [])) (0 ∷ 3 ∷ 1 ∷ 1414 ∷ 2 ∷ 707 ∷ [])
+    ∷ searching 3 100 twiceOne (ask 2 (at 5 2 ∷ at 9 2 ∷ at 40 1 ∷ [])) (0 ∷ 3 ∷ 1 ∷ 2828 ∷ 2 ∷ 1000 ∷ [])
     -- a message, whole or not, is 2; a registration with a weight of 0 is 5
     ∷ searching 3 100 c10Start (encode (message 20 2 ungraded (at 5 1 ∷ []))) (2 ∷ 0 ∷ [])
     ∷ searching 3 100 c10Start (0x10 ∷ 0x00 ∷ 0x00 ∷ 0x00 ∷ 0x00 ∷ []) (2 ∷ 0 ∷ [])
