@@ -516,7 +516,7 @@ fn unanswered(number: u32) -> Searched
 
 // The list that registering the frame's query would give, and the postings that a search for it reads.
 pub fn search(state: &[u8], bytes: &[u8]) -> Searched
-    ensures { λ r. ⌜ SearchPost (now (state .entry)) (now (bytes .entry)) r ⌝ }
+    ensures { λ r. ⌜ SearchPost (now (state .entry)) (now (bytes .entry)) r × (now (state .exit) ≡ now (state .entry)) ⌝ }
 {
     if state.len() != layout::STATE {
         return unanswered(12);

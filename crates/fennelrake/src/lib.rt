@@ -81,7 +81,7 @@ pub extern "C" fn fennelrake_list(state: &[u8], number: u32, answer: &mut [u8]) 
 // The answer: that of a list, for the frame's query as if it were registered, and the postings read.
 #[no_mangle]
 pub extern "C" fn fennelrake_search(state: &[u8], bytes: &[u8], answer: &mut [u8]) -> u32
-    ensures { λ r. ⌜ SearchEntry (now (state .entry)) (now (bytes .entry)) (now (answer .entry)) r (now (answer .exit)) ⌝ }
+    ensures { λ r. ⌜ SearchEntry (now (state .entry)) (now (bytes .entry)) (now (answer .entry)) r (now (answer .exit)) × (now (state .exit) ≡ now (state .entry)) ⌝ }
 {
     if answer.len() < SEARCH_ANSWER {
         return 12;

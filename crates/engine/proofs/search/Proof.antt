@@ -1,6 +1,6 @@
 -- `search` meets its contract. Assumes nothing.
 use native.Mathlib.Omega.{arith}
-use mathlib.Core.Path.{_≡_}
+use mathlib.Core.Path.{_≡_, refl}
 use lib.ListN.{length}
 use borrow.Author.Needs.{needs}
 use Rattle.paper.specs.Layout.{stateLength}
@@ -10,12 +10,12 @@ use Rattle.engine.proofs.search.Statement.{statement}
 use Rattle.engine.proofs.search.Tie as tie
 
 returns : tie.Need-returns
-returns c = search-not-lent _ _ _ (λ e. omega arith) (c .unanswered .ensures)
+returns c = (search-not-lent _ _ _ (λ e. omega arith) (c .unanswered .ensures), refl)
 
 returns-2 : tie.Need-returns-2
 returns-2 c =
     let r = c .before .before .before in
-    search-refused _ _ _ _ (omega arith) (r .read-asked .ensures) (λ e. omega arith) (c .unanswered2 .ensures)
+    (search-refused _ _ _ _ (omega arith) (r .read-asked .ensures) (λ e. omega arith) (c .unanswered2 .ensures), refl)
 
 -- what is asked for, and the first eight of its terms and weights
 abbrev read-of : tie.After-load → tie.After-read-asked
@@ -36,7 +36,7 @@ returns-3 : tie.Need-returns-3
 returns-3 c =
     let l = c .before .before in
     let u = l .before in
-    search-right (asks l) (u .before .first-eight .ensures) (u .first-eight2 .ensures) _ (long l) (l .load .ensures) (c .before .search .ensures) (c .of .ensures)
+    (search-right (asks l) (u .before .first-eight .ensures) (u .first-eight2 .ensures) _ (long l) (l .load .ensures) (c .before .search .ensures) (c .of .ensures), refl)
 
 pub search-spec : {M : Type 1} → statement M
 search-spec =
