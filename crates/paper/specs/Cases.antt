@@ -4,16 +4,15 @@
 use Prim.Native.Nat.{ℕ, suc}
 use mathlib.Core.List.{List, [], _∷_, _++_, map}
 use lib.ListN.{take}
-use Rattle.paper.specs.Frame.{Pair, Frame, Shape, encode, shape}
+use Rattle.paper.specs.Frame.{Pair, Frame, encode, shape}
 use Rattle.paper.specs.Frame.Frame.{message, tick, register, unregister, cancel}
 use Rattle.paper.specs.Frame.Urgency.{routine, important, vital}
 use Rattle.paper.specs.Frame.Form.{ungraded, graded}
-use Rattle.paper.specs.Frame.Shape.{refused, accepted}
 use Rattle.paper.specs.Impact.{impactIn}
 use Rattle.paper.specs.Rank.{Line, lines}
 use Rattle.paper.specs.Layout.{stateLength}
 use Rattle.paper.specs.Log.{Log, Call, fresh, judge, after, departures, listed}
-use Rattle.paper.specs.Search.{Outcome, judgeSearch, found}
+use Rattle.paper.specs.Search.{Outcome, refusalOf, judgeSearch, found}
 
 pub data Case : Type 0 where
   -- the counts of a message's terms; the impact of each
@@ -36,10 +35,6 @@ numbered n (f ∷ fs) = record { term = n; amount = f } ∷ numbered (suc n) fs
 
 abbrev pub impactsOf : List Pair → List ℕ
 impactsOf ps = map (λ p. impactIn ps (p .term)) ps
-
-abbrev pub numberOf : Shape → ℕ
-numberOf (refused r) = r
-numberOf (accepted f) = 0
 
 abbrev pub call : List ℕ → Call
 call bytes = record { bytes = bytes; state = stateLength; output = 0 }
@@ -67,8 +62,8 @@ told r = r .read ∷ flat (lines (r .list))
 
 abbrev pub computed : Case → List (List ℕ)
 computed (impacts fs ws) = impactsOf (numbered 0 fs) ∷ []
-computed (spelling f bytes) = encode f ∷ (numberOf (shape bytes) ∷ []) ∷ []
-computed (judging bytes r) = (numberOf (shape bytes) ∷ []) ∷ []
+computed (spelling f bytes) = encode f ∷ (refusalOf (shape bytes) ∷ []) ∷ []
+computed (judging bytes r) = (refusalOf (shape bytes) ∷ []) ∷ []
 computed (passage N T frames told) = run (fresh N T) frames
 computed (searching N T frames bytes answer) =
     (judgeSearch 0 bytes stateLength 0 ∷ told (found 0 (fed (fresh N T) frames) bytes stateLength 0)) ∷ []

@@ -3,7 +3,7 @@
 // The list is the ranking of the window, which has no postings at hand to be read one by one. By its last score it is known where the rule ends: where
 // the next postings sum to less. Postings are read by falling height, so that place is found by halving, and what stands above it is counted.
 ghost use mathlib.Core.Path.{_≡_};
-ghost use Prim.Native.Nat.{_*_, _<_, _≤_, max};
+ghost use Prim.Native.Nat.{_*_, _<_, _≤_};
 ghost use mathlib.Core.Bool.{cond};
 ghost use lib.ListN.{length};
 ghost use lib.Dec.{leb};
@@ -67,17 +67,11 @@ fn cap(at: u32, p: usize, weight: u32) -> u16
     ((at - least) / MOST_TERMS / weight) as u16
 }
 
-// An impact that is at most the cap, else 0. Without a branch where it is put in place, and so is the next.
+// An impact that is at most the cap, else 0. Without a branch where it is put in place.
 fn capped(x: u16, cap: u16) -> u16
     ensures { λ r. ⌜ r ≡ cond (leb x cap) x 0 ⌝ }
 {
     if x <= cap { x } else { 0 }
-}
-
-fn greater(a: u16, b: u16) -> u16
-    ensures { λ r. ⌜ r ≡ max a b ⌝ }
-{
-    if a < b { b } else { a }
 }
 
 // The next impact in a term once all above the cap are read: the greatest of its column that is at most the cap.
@@ -87,7 +81,7 @@ fn next_impact(column: &[u16], cap: u16) -> u16
     let mut next: u16 = 0;
     let mut i: usize = 0;
     while i < column.len() {
-        next = greater(next, capped(column[i], cap));
+        next = window::greater(next, capped(column[i], cap));
         i += 1;
     }
     next

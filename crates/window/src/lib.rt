@@ -88,7 +88,7 @@ pub fn impact_in(state: &[u8], j: usize, term: u32) -> u32
     0
 }
 
-fn greater(a: u16, b: u16) -> u16
+pub fn greater(a: u16, b: u16) -> u16
     ensures { λ r. ⌜ r ≡ max a b ⌝ }
 {
     if a < b { b } else { a }
