@@ -83,6 +83,8 @@ fn worked() {
     let b = Board::of(&[&[(5, 1), (9, 1)], &[(9, 1), (40, 1)]]);
     assert_eq!(b.search(1, &[(5, 1), (9, 1)]), (1, vec![(1, 1414)]));
     assert_eq!(b.search(2, &[(5, 1), (9, 1)]), (3, vec![(1, 1414), (2, 707)]));
+    let b = Board::of(&[&[(5, 1), (9, 1)], &[(40, 1)]]);
+    assert_eq!(b.search(2, &[(5, 2), (9, 2), (40, 1)]), (3, vec![(1, 2828), (2, 1000)]));
 }
 
 /// Every byte of an answer: 34 numbers of four bytes, the most significant first; those past it stay.
