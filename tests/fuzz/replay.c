@@ -194,9 +194,6 @@ int main(int argc, char **argv)
         fprintf(stderr, "usage: replay passage|foreign FILE.., replay random SEED COUNT, or replay make TARGET SEED DIR COUNT\n");
         return 2;
     }
-    /*
-     * Inputs that leave a fifth of the archive out would mean little. A tenth nobody can enter: the compiler has unrolled a search's halving once more
-     * for a window without any of the terms, where no list is full and nothing is halved.
-     */
-    return tell_blocks() < 80 && strcmp(argv[1], "random") == 0;
+    /* inputs that leave a tenth of the archive out would mean little */
+    return tell_blocks() < 90 && strcmp(argv[1], "random") == 0;
 }

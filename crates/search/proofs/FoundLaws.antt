@@ -6,7 +6,7 @@ use mathlib.Core.Path.{_≡_, refl, sym, ap, _∙_, subst}
 use mathlib.Core.Bool.{Bool, true, false}
 use mathlib.Core.Logic.{⊎-elim}
 use mathlib.Core.List.{List, [], _∷_, map, map-map}
-use lib.ListN.{length, getD, take, drop, length-map, length-drop, List·getD-map, List·getD-eq-default}
+use lib.ListN.{length, getD, take, drop, replicate, length-replicate, length-map, length-drop, List·getD-map, List·getD-eq-default}
 use lib.Seq.{length-take-le, getD-take, getD-drop, ext-getD}
 use lib.Dec.{eqb, leb, ltb}
 use borrow.Author.Tests.{ltb-true}
@@ -31,11 +31,11 @@ use Rattle.paper.proofs.SearchLaws.{search-list, search-short, search-full, pos
 use Rattle.impact.specs.Cell.{lookup}
 use Rattle.impact.proofs.CellLaws.{lookup-cells}
 use Rattle.rank.specs.declared.Ranked.{Ranked}
-use Rattle.rank.specs.Listing.{keyed, keyedOf}
+use Rattle.rank.specs.Listing.{keyed, keyedOf, Empty}
 use Rattle.rank.specs.Weights.{weightLimit}
 use Rattle.window.specs.Slot.{Slot, slot, stored, ring, live}
 use Rattle.candidates.specs.declared.Query.{Query}
-use Rattle.candidates.specs.Post.{Rising}
+use Rattle.candidates.specs.Post.{Rising, grows}
 use Rattle.candidates.specs.Rows.{Known, Having, Gathered, Rows, RankedRows}
 use Rattle.candidates.proofs.RowLaws.{having-live, having-grows}
 use Rattle.candidates.proofs.TermLaws.{side-at}
@@ -44,7 +44,7 @@ use Rattle.query.proofs.QueryLaws.{weight-range}
 use Rattle.query.proofs.SettleLaws.{lt-or-ge, Sixteen, count-is, last-is, last-positive, listed-is}
 use Rattle.search.specs.Cut.{height, upTo, over, sumAt, readAt}
 use Rattle.search.specs.Post.{Fit, Columns, column, sumBy, readBy, heightLimit, ReadFor}
-use Rattle.search.proofs.SumLaws.{over-positive, over-sort, upTo-positive, upTo-sort, sum-agree, read-agree, cut-none}
+use Rattle.search.proofs.SumLaws.{over-positive, over-sort, upTo-positive, upTo-sort, sum-agree, read-agree, read-none, cut-none}
 use Rattle.search.proofs.CutLaws.{cut-steps}
 
 -- ---- lists that are the same to every cut
@@ -328,3 +328,22 @@ module _ {w rows js : List ℕ} {first count : ℕ} {r : Query} {list : Ranked} 
 
     pub found-read : n ≡ search q ms .read
     found-read = ⊎-elim full-read short-read (eq-or-lt-of-le (ranking-length q ms))
+
+-- where no message has one of the terms, nothing is listed and nothing read
+pub found-nothing : {w : List ℕ} {first count : ℕ} {r : Query} {list : Ranked} {ms : List Message} {q : Rank.Query} → Having w r (ring first count) []
+    → Over w first count ms → Distinct ms → Terms q → Is r q → Empty list → Sixteen list → (keyedOf list ≡ keyed (search q ms .list)) × (0 ≡ search q ms .read)
+unfolding grows
+found-nothing {w} {r = r} {list} picked over distinct terms is empty long =
+    (found-list picked looked by over distinct terms is, found-read picked looked by over distinct terms is 0 (fit-by is terms) long (omega arith) columns read)
+  where
+    looked : Rows w [] r []
+    looked = record { narrow = λ i. omega arith; right = λ rising known i l. absurd (omega arith) }
+
+    by : RankedRows w [] r [] list
+    by = record { within = omega (arith, empty .count); tidy = empty .tidy; right = λ _ rising known. empty .list }
+
+    columns : Columns [] 0 (r .n) (replicate (mostTerms * slots) 0)
+    columns = record { long = length-replicate {A = ℕ} (mostTerms * slots) 0; are = λ p i l m. absurd (omega arith) }
+
+    read : ReadFor (replicate (mostTerms * slots) 0) 0 r list 0
+    read = record { full = λ e. absurd (omega (arith, empty .count, is .k, terms .k-least)); short = λ _. sym (read-none (r .n) (r .weights) 0) }

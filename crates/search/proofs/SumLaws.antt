@@ -154,6 +154,11 @@ module _ (n : ℕ) (ws vs : List ℕ) (f g : ℕ → List ℕ) (same : (p : ℕ)
   read-agree h =
       rw (read-total ws f x n, read-total vs g x n) (total-agree n _ _ (λ p l. rw (same p l) (h p l (cap x p (getD vs p 0)))))
 
+-- without impacts nothing is read
+pub read-none : (n : ℕ) (ws : List ℕ) (x : ℕ) → readAt n ws (λ p. []) x ≡ 0
+unfolding over
+read-none n ws x = rw (read-total ws (λ p. []) x n) (total-none n _ (λ p l. refl))
+
 -- the higher the cut, the greater the sum below it
 pub sum-rises : (n : ℕ) (ws : List ℕ) (impacts : ℕ → List ℕ) (x z : ℕ) → x ≤ z → sumAt n ws impacts x ≤ sumAt n ws impacts z
 unfolding sumAt

@@ -181,6 +181,13 @@ pub fn search(state: &[u8], first: usize, count: usize, query: Query) -> Outcome
 {
     let mut picked = [0u16; layout::SLOTS];
     let m = candidates::having(state, first, count, query, &mut picked);
+    // No message has one of the terms.
+    if m == 0 {
+        return Outcome {
+            list: Ranked::none(),
+            read: 0,
+        };
+    }
     let mut rows = [0u16; candidates::ROWS];
     candidates::look(state, &picked, m, query, &mut rows);
     let list = candidates::ranked_rows(state, &picked, m, &rows, query);

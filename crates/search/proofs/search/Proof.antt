@@ -1,13 +1,13 @@
 -- `search` meets its contract. Assumes nothing.
 use Prim.Native.Nat.{_≤_}
 use native.Mathlib.Omega.{arith}
-use mathlib.Core.Path.{refl}
+use mathlib.Core.Path.{_≡_, refl}
 use borrow.Author.Needs.{needs, length-unmapped}
 use Rattle.paper.specs.Layout.{slots}
 use Rattle.candidates.proofs.FlagLaws.{zero-at}
 use Rattle.candidates.proofs.RowLaws.{having-shares}
 use Rattle.query.proofs.SettleLaws.{Sixteen}
-use Rattle.search.proofs.FoundLaws.{picked-size, found-list, found-read}
+use Rattle.search.proofs.FoundLaws.{picked-size, found-list, found-read, found-nothing}
 use Rattle.search.proofs.search.Statement.{statement}
 use Rattle.search.proofs.search.Tie as tie
 
@@ -21,16 +21,35 @@ start-of h = h .before .before .before
 few : (h : tie.After-having) → h .having .result ≤ slots
 few h = omega (arith, h .having .ensures .within, start-of h .pre .2)
 
+-- no slot is picked
+returns : tie.Need-returns
+returns c =
+    let h = c .before .before .before in
+    let picked = h .having .ensures in
+    let nothing = c .none .ensures in
+    let long : Sixteen (c .none .result) = record {
+      most = omega (arith, nothing .count);
+      serials = search (needs, length-unmapped);
+      keys = search (needs, length-unmapped);
+    } in
+    let zero : h .having .result ≡ 0 = omega arith in
+    record {
+      most = long .most;
+      tidy = nothing .tidy;
+      right = λ ms q over distinct terms is.
+          found-nothing (rw zero at (having-shares (picked .right (is .rising) (is .known)))) over distinct terms is nothing long;
+    }
+
 look-requires : tie.Need-look-requires
 look-requires c κs =
-    let h = c .before .before .before in
+    let h = c .before .before .before .before in
     let picked = h .having .ensures in
     ((search needs, few h, picked .long, start-of h .pre .3 .n-most), ((refl, λ i. zero-at 2313 i), picked .below))
 
 ranked-rows-requires : tie.Need-ranked-rows-requires
 ranked-rows-requires c κs =
     let l = c .before .before .before in
-    let h = l .before .before .before .before in
+    let h = l .before .before .before .before .before in
     let picked = h .having .ensures in
     let looked = l .look .ensures in
     let fit = start-of h .pre .3 in
@@ -41,7 +60,7 @@ abbrev look-of : tie.After-ranked-rows → tie.After-look
 look-of r = r .before .before .before .before
 
 abbrev having-of : tie.After-ranked-rows → tie.After-having
-having-of r = look-of r .before .before .before .before
+having-of r = look-of r .before .before .before .before .before
 
 sixteen : (r : tie.After-ranked-rows) → Sixteen (r .ranked-rows .result)
 sixteen r = record {
@@ -63,8 +82,8 @@ postings-read-requires c κs =
     let h = having-of r in
     (p .put-columns .ensures .long, few h, start-of h .pre .3, sixteen r .most)
 
-returns : tie.Need-returns
-returns c =
+returns-2 : tie.Need-returns-2
+returns-2 c =
     let p = c .before .before .before in
     let r = p .before .before .before in
     let h = having-of r in
@@ -90,6 +109,8 @@ search-spec =
     (tie.spec
     (λ c. search needs)
     having-requires
+    (λ c κs. search needs)
+    returns
     (λ c. search needs)
     (λ c. search needs)
     look-requires
@@ -101,4 +122,4 @@ search-spec =
     put-columns-requires
     (λ c. search needs)
     postings-read-requires
-    returns)
+    returns-2)
