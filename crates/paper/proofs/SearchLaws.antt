@@ -55,7 +55,7 @@ unfolding postings
 falls t ms = falling-sort (λ (e : Entry). e .score) (entries (impactOf t) ms)
 
 -- a posting is a message's with its impact, above 0
-posting-of : (t : ℕ) (ms : List Message) (x : Entry) → In x (postings t ms) → In (x .of) ms × (x .score ≡ impactIn (x .of .pairs) t) × (0 < x .score)
+pub posting-of : (t : ℕ) (ms : List Message) (x : Entry) → In x (postings t ms) → In (x .of) ms × (x .score ≡ impactIn (x .of .pairs) t) × (0 < x .score)
 unfolding postings
 posting-of t ms x i = entries-in (impactOf t) ms x (sort-in aheadPosting x (entries (impactOf t) ms) i)
 

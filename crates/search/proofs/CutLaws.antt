@@ -14,7 +14,7 @@ use Rattle.paper.specs.Order.{In, Ordered}
 use Rattle.paper.specs.Search.{countIn, highest, highestAt, without}
 use Rattle.paper.proofs.Tests.{by-bool}
 use Rattle.paper.proofs.Steps.{front, sum, weighed, steps}
-use Rattle.paper.proofs.SortLaws.{select-none}
+use Rattle.paper.proofs.SortLaws.{from-map, select-none}
 use Rattle.search.specs.Cut.{height, upTo, over, sumAt, readAt}
 use Rattle.search.proofs.SumLaws.{over-counts, total, total-agree, total-none, total-less, sum-places, count-places, sum-total, read-total}
 
@@ -272,15 +272,10 @@ walk s x (suc n) vss e w =
 -- ---- a weight times each impact
 
 module _ (w : ℕ) where
-  in-times : (u : ℕ) (l : List ℕ) → In u (map (λ v. w * v) l) → (v : ℕ) × In v l × (u ≡ w * v)
-  in-times u [] m = absurd m
-  in-times u (v ∷ l) (inl e) = (v, inl refl, e)
-  in-times u (v ∷ l) (inr m) = let r = in-times u l m in (r .0, inr (r .1), r .2)
-
   falls-times : (l : List ℕ) → Falls l → Falls (map (λ v. w * v) l)
   falls-times [] o = tt
   falls-times (v ∷ l) o =
-      ((λ u m. let r = in-times u l m in rw (r .2) (mul-le-mul-left w (o .0 (r .0) (r .1)))), falls-times l (o .1))
+      ((λ u m. let r = from-map (λ v. w * v) u l m in rw (r .2) (mul-le-mul-left w (o .0 (r .0) (r .1)))), falls-times l (o .1))
 
   times-max : (a b : ℕ) → max (w * a) (w * b) ≡ w * max a b
   times-max a b =
@@ -341,7 +336,7 @@ module _ (ws : List ℕ) (ls : List (List ℕ)) (same : length ls ≡ length ws)
   impacts p = getD ls p []
 
   in-weighed : (p u : ℕ) → In u (getD (weighed ws ls) p []) → (v : ℕ) × In v (impacts p) × (u ≡ getD ws p 0 * v)
-  in-weighed p u m = in-times (getD ws p 0) u (impacts p) (rw (weighed-place ws ls same p) at m)
+  in-weighed p u m = from-map (λ v. getD ws p 0 * v) u (impacts p) (rw (weighed-place ws ls same p) at m)
 
   module _ (heavy : (p : ℕ) → p < length ws → 1 ≤ getD ws p 0) where
     next-weighed : (z : ℕ) → nextSum z (weighed ws ls) ≡ sumAt (length ws) ws impacts z

@@ -17,17 +17,16 @@ use Rattle.paper.specs.Order.{In, Ordered}
 use Rattle.paper.specs.Sort.{select, sort}
 use Rattle.paper.specs.Window.{Message}
 use Rattle.paper.specs.Rank as Rank
-use Rattle.paper.specs.Rank.{Entry, aheadPosting, entry, scoring, entries, ranking, postings}
+use Rattle.paper.specs.Rank.{Entry, entry, scoring, ranking, postings}
 use Rattle.paper.specs.Threshold.{termAt, weightAt, lastScore}
 use Rattle.paper.specs.Search.{countIn, postingsOf, search}
 use Rattle.paper.specs.Sound.{Messages, Terms, Distinct}
 use Rattle.paper.proofs.Tests.{by-bool}
 use Rattle.paper.proofs.ImpactLaws.{impact-most}
 use Rattle.paper.proofs.Steps.{weighed, steps}
-use Rattle.paper.proofs.SortLaws.{select-all, select-select, select-map, sort-in, inserts-map, from-map}
-use Rattle.paper.proofs.LeadLaws.{entries-in}
+use Rattle.paper.proofs.SortLaws.{select-all, select-select, select-map, inserts-map, from-map}
 use Rattle.paper.proofs.RankLaws.{ranking-length}
-use Rattle.paper.proofs.SearchLaws.{search-list, search-short, search-full, postings-falling, postings-positive}
+use Rattle.paper.proofs.SearchLaws.{search-list, search-short, search-full, posting-of, postings-falling, postings-positive}
 use Rattle.impact.specs.Cell.{lookup}
 use Rattle.impact.proofs.CellLaws.{lookup-cells}
 use Rattle.rank.specs.declared.Ranked.{Ranked}
@@ -115,11 +114,9 @@ impact-in-most ps t =
     by-bool (eqb (countOf t ps) 0) (λ e. rw e (omega arith)) (λ e. rw e (impact-most (countOf t ps) (squares ps)))
 
 postings-most : (t : ℕ) (ms : List Message) (v : ℕ) → In v (scores (postings t ms)) → v ≤ top
-unfolding postings
 postings-most t ms v i =
     let r = from-map (λ (e : Entry). e .score) v (postings t ms) i in
-    let e = entries-in (λ ps. impactIn ps t) ms (r .0) (sort-in aheadPosting (r .0) (entries (λ ps. impactIn ps t) ms) (r .1)) in
-    omega (arith, r .2, e .1, impact-in-most (r .0 .of .pairs) t)
+    omega (arith, r .2, posting-of t ms (r .0) (r .1) .1, impact-in-most (r .0 .of .pairs) t)
 
 -- ---- rows of the window
 
@@ -330,10 +327,10 @@ module _ {w rows js : List ℕ} {first count : ℕ} {r : Query} {list : Ranked} 
     found-read = ⊎-elim full-read short-read (eq-or-lt-of-le (ranking-length q ms))
 
 -- where no message has one of the terms, nothing is listed and nothing read
-pub found-nothing : {w : List ℕ} {first count : ℕ} {r : Query} {list : Ranked} {ms : List Message} {q : Rank.Query} → Having w r (ring first count) []
+pub none-found : {w : List ℕ} {first count : ℕ} {r : Query} {list : Ranked} {ms : List Message} {q : Rank.Query} → Having w r (ring first count) []
     → Over w first count ms → Distinct ms → Terms q → Is r q → Empty list → Sixteen list → (keyedOf list ≡ keyed (search q ms .list)) × (0 ≡ search q ms .read)
 unfolding grows
-found-nothing {w} {r = r} {list} picked over distinct terms is empty long =
+none-found {w} {r = r} {list} picked over distinct terms is empty long =
     (found-list picked looked by over distinct terms is, found-read picked looked by over distinct terms is 0 (fit-by is terms) long (omega arith) columns read)
   where
     looked : Rows w [] r []

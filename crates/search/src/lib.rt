@@ -181,7 +181,7 @@ pub fn search(state: &[u8], first: usize, count: usize, query: Query) -> Outcome
 {
     let mut picked = [0u16; layout::SLOTS];
     let m = candidates::having(state, first, count, query, &mut picked);
-    // No message has one of the terms.
+    // No list is full then, and nothing is halved: unless it is said here, the compiler makes a second halving for this case.
     if m == 0 {
         return Outcome {
             list: Ranked::none(),

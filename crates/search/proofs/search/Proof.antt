@@ -7,7 +7,7 @@ use Rattle.paper.specs.Layout.{slots}
 use Rattle.candidates.proofs.FlagLaws.{zero-at}
 use Rattle.candidates.proofs.RowLaws.{having-shares}
 use Rattle.query.proofs.SettleLaws.{Sixteen}
-use Rattle.search.proofs.FoundLaws.{picked-size, found-list, found-read, found-nothing}
+use Rattle.search.proofs.FoundLaws.{picked-size, found-list, found-read, none-found}
 use Rattle.search.proofs.search.Statement.{statement}
 use Rattle.search.proofs.search.Tie as tie
 
@@ -37,7 +37,7 @@ returns c =
       most = long .most;
       tidy = nothing .tidy;
       right = λ ms q over distinct terms is.
-          found-nothing (rw zero at (having-shares (picked .right (is .rising) (is .known)))) over distinct terms is nothing long;
+          none-found (rw zero at (having-shares (picked .right (is .rising) (is .known)))) over distinct terms is nothing long;
     }
 
 look-requires : tie.Need-look-requires
