@@ -5,19 +5,20 @@ use native.Mathlib.Omega.{arith}
 use mathlib.Core.Path.{_≡_, refl, sym, ap, _∙_, subst}
 use mathlib.Core.List.{List, [], _∷_}
 use lib.ListN.{length, getD, take}
-use Rattle.paper.specs.Frame.{Pair, Frame, Shape, level, urgencyOf, AllFit, countWidth, weightWidth, termWidth, shape, mostPairs, mostTerms, mostListed, numbers, Pairs}
+use lib.Dec.{lit≤}
+use Rattle.paper.specs.Frame.{Pair, Frame, Shape, level, urgencyOf, gradeOf, mostIn, AllFit, countWidth, weightWidth, termWidth, shape, mostPairs, mostTerms, mostListed, numbers, Pairs}
 use lib.Seq.{getD-take}
 use Rattle.paper.specs.Frame.Urgency.{vital}
-use Rattle.paper.specs.Frame.Form.{ungraded, graded}
+use Rattle.paper.specs.Frame.Form.{ungraded, graded, long}
 use Rattle.paper.specs.Frame.Frame.{message, tick, register, unregister, cancel}
 use Rattle.paper.specs.Frame.Shape.{refused, accepted}
 use Rattle.paper.specs.Write.{side-by-side}
-use Rattle.paper.proofs.FrameLaws.{level-most, shape-valid}
+use Rattle.paper.proofs.FrameLaws.{level-most, form-most, shape-valid}
 use Rattle.frame.specs.declared.Kind.{Kind}
-use Rattle.frame.specs.declared.Kind.the-variants.{Message, Tick, Register, Unregister, Cancel, Urgent, Refused}
+use Rattle.frame.specs.declared.Kind.the-variants.{Message, Tick, Register, Unregister, Cancel, Refused}
 use Rattle.frame.specs.declared.Parsed.{Parsed}
 use Rattle.frame.specs.Read.{answerOf, pairsRead, ReadPost}
-use Rattle.frame.proofs.RoundTrip.{told, read-told, countIn, count-answer}
+use Rattle.frame.proofs.RoundTrip.{formOf, told, read-told, countIn, count-answer}
 
 -- two lists with as many pairs as is said: each is within its field
 within : (w m : ℕ) (ts us : List ℕ) → AllFit w (side-by-side m ts us) → m ≡ length (side-by-side m ts us) → (i : ℕ) → i < m
@@ -54,24 +55,24 @@ read-eight {bytes} {terms} {amounts} {ts} {us} {m} {w} {make} et eu r h = rw (et
   fit = λ i l. let k : i < 8 = omega arith in rw (getD-take 8 terms i 0 k, getD-take 8 amounts i 0 k) (r .fit i l);
 })
 
--- the urgency that an answer says is one of the three
-abbrev urgencyIn : Kind → ℕ
-urgencyIn (Message t s m) = 0
-urgencyIn (Tick t) = 0
-urgencyIn (Register t n k m) = 0
-urgencyIn (Unregister t n) = 0
-urgencyIn (Cancel t s) = 0
-urgencyIn (Urgent t s u m) = u
-urgencyIn (Refused r) = 0
+-- the urgency that an answer says is one of the three, and the message's in its form
+abbrev pub Urged : Kind → Type 0
+Urged (Message f t s u m) = (u ≤ level vital) × (gradeOf (formOf f (urgencyOf u)) ≡ urgencyOf u)
+Urged (Tick t) = Unit {0}
+Urged (Register t n k m) = Unit {0}
+Urged (Unregister t n) = Unit {0}
+Urged (Cancel t s) = Unit {0}
+Urged (Refused r) = Unit {0}
 
-urgency-answer : (x : Shape) → urgencyIn (answerOf x) ≤ level vital
-urgency-answer (accepted (message t s ungraded ps)) = omega arith
-urgency-answer (accepted (message t s (graded u) ps)) = level-most u
-urgency-answer (accepted (tick t)) = omega arith
-urgency-answer (accepted (register t n k ps)) = omega arith
-urgency-answer (accepted (unregister t n)) = omega arith
-urgency-answer (accepted (cancel t s)) = omega arith
-urgency-answer (refused r) = omega arith
+urged : (x : Shape) → Urged (answerOf x)
+urged (accepted (message t s ungraded ps)) = (lit≤ tt, refl)
+urged (accepted (message t s (graded u) ps)) = (level-most u, refl)
+urged (accepted (message t s (long u) ps)) = (level-most u, refl)
+urged (accepted (tick t)) = tt
+urged (accepted (register t n k ps)) = tt
+urged (accepted (unregister t n)) = tt
+urged (accepted (cancel t s)) = tt
+urged (refused r) = tt
 
 module _ (bytes : List ℕ) (r : Parsed) (post : ReadPost (shape bytes) r) where
   -- bytes that are answered with k are the frame, or the refusal, that k tells
@@ -91,18 +92,13 @@ module _ (bytes : List ℕ) (r : Parsed) (post : ReadPost (shape bytes) r) where
       let u = p .at-most in
       record { is = is; least = omega arith; most = omega arith; fit = within w m (r .terms) (r .amounts) (p .fit) n }
 
-  pub read-message : (t s m : ℕ) → r .what ≡ Message t s m → Read bytes (r .terms) (r .amounts) m countWidth (message t s ungraded)
-  read-message t s m e =
-      let is = read-as (Message t s m) e in
-      read-pairs m countWidth mostPairs (message t s ungraded) is (read-count (Message t s m) e) (shape-valid bytes _ is .pairs) (omega arith)
-
-  -- the number that it says is its urgency's
-  pub read-urgent : (t s u m : ℕ) → r .what ≡ Urgent t s u m
-      → Read bytes (r .terms) (r .amounts) m countWidth (message t s (graded (urgencyOf u))) × (u ≤ level vital)
-  read-urgent t s u m e =
-      let is = read-as (Urgent t s u m) e in (
-        read-pairs m countWidth mostPairs (message t s (graded (urgencyOf u))) is (read-count (Urgent t s u m) e) (shape-valid bytes _ is .pairs) (omega arith),
-        subst (λ (k : Kind). urgencyIn k ≤ level vital) (sym (post .what) ∙ e) (urgency-answer (shape bytes)),
+  pub read-message : (f t s u m : ℕ) → r .what ≡ Message f t s u m
+      → Read bytes (r .terms) (r .amounts) m countWidth (message t s (formOf f (urgencyOf u))) × Urged (Message f t s u m)
+  read-message f t s u m e =
+      let g = formOf f (urgencyOf u) in
+      let is = read-as (Message f t s u m) e in (
+        read-pairs m countWidth (mostIn g) (message t s g) is (read-count (Message f t s u m) e) (shape-valid bytes _ is .pairs) (form-most g),
+        subst Urged (sym (post .what) ∙ e) (urged (shape bytes)),
       )
 
   pub read-register : (t n k m : ℕ) → r .what ≡ Register t n k m

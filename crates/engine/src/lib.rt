@@ -30,9 +30,6 @@ const NUMBERS: u32 = paper::NUMBERS as u32;
 
 const TERMS: u32 = paper::TERMS as u32;
 
-// The urgency of a message that says none.
-const ROUTINE: u32 = 0;
-
 pub struct Reply {
     pub number: u32,
     pub marks: u32,
@@ -228,7 +225,7 @@ fn join(
     }
 }
 
-// A message in either form: what it says of its urgency is all that it differs in.
+// A message in any of its forms, which its list can't tell apart.
 fn message(
     state: &mut [u8],
     time: u32,
@@ -418,8 +415,10 @@ pub fn frame(state: &mut [u8], bytes: &[u8]) -> Reply
         Kind::Message {
             time,
             serial,
+            urgency,
             pairs,
-        } => message(state, time, serial, ROUTINE, pairs, terms, amounts),
+            ..
+        } => message(state, time, serial, urgency, pairs, terms, amounts),
         Kind::Tick { time } => tick(state, time),
         Kind::Register {
             time,
@@ -433,12 +432,6 @@ pub fn frame(state: &mut [u8], bytes: &[u8]) -> Reply
         }
         Kind::Unregister { time, number } => unregister(state, time, number as usize),
         Kind::Cancel { time, serial } => cancel(state, time, serial),
-        Kind::Urgent {
-            time,
-            serial,
-            urgency,
-            pairs,
-        } => message(state, time, serial, urgency, pairs, terms, amounts),
         Kind::Refused(r) => refused(r),
     }
 }

@@ -1,5 +1,5 @@
--- Laws of the writer's entry: terms of two bytes each, no more than sixteen of them, and a number and a size in one number. Assumes nothing.
-use Prim.Native.Nat.{ℕ, zero, suc, _+_, _*_, _/_, _%_, _≤_, _<_}
+-- Laws of the writer's entry: terms of two bytes each, no more than the most pairs of them, and a number and a size in one number. Assumes nothing.
+use Prim.Native.Nat.{ℕ, zero, suc, _+_, _*_, _/_, _%_, _^_, _≤_, _<_}
 use native.Mathlib.Nat.{not-suc-le-zero}
 use native.Mathlib.Numerals.{towards-suc}
 use native.Mathlib.Omega.{arith}
@@ -11,7 +11,7 @@ use lib.Seq.{take-all}
 use lib.Dec.{eqb, leb}
 use borrow.Author.Tests.{leb-true, leb-false, le-leb, lt-leb}
 use Rattle.wire.specs.Field.{total}
-use Rattle.paper.specs.Frame.{Pair, Fields, Shape, rowOf}
+use Rattle.paper.specs.Frame.{Pair, Fields, Shape, rowOf, pairsWidth, mostPairs}
 use Rattle.paper.specs.Frame.Shape.{refused, accepted}
 use Rattle.paper.specs.Write.{side-by-side, headWithin, fromKind, fromFields, bytesOf}
 use Rattle.paper.proofs.FrameLaws.{by-kind, encode-most}
@@ -42,13 +42,13 @@ get-term (a ∷ b ∷ s) (suc i) h = rw two (simp towards-suc (simp towards-suc 
 -- i of the terms stand in a
 pub record Decoding (count i : ℕ) (bytes a : List ℕ) : Type 0 where
   pub bound : i ≤ count
-  pub wide : length a ≡ 16
+  pub wide : length a ≡ mostPairs
   pub same : take i a ≡ take i (termsOf bytes)
 
-pub decoding-none : {count i : ℕ} {bytes a : List ℕ} → i ≡ 0 → length a ≡ 16 → Decoding count i bytes a
+pub decoding-none : {count i : ℕ} {bytes a : List ℕ} → i ≡ 0 → length a ≡ mostPairs → Decoding count i bytes a
 decoding-none z l = rw z (record { bound = omega arith; wide = l; same = refl })
 
-pub decoding-more : {count i v : ℕ} {bytes a : List ℕ} → count ≤ 16 → 2 * count ≤ length bytes → i < count
+pub decoding-more : {count i v : ℕ} {bytes a : List ℕ} → count ≤ mostPairs → 2 * count ≤ length bytes → i < count
     → v ≡ getD bytes (2 * i) 0 * 256 + getD bytes (2 * i + 1) 0 → Decoding count i bytes a → Decoding count (i + 1) bytes (set a i v)
 decoding-more {count} {i} {v} {bytes} {a} m h k e p = record {
   bound = omega arith;
@@ -83,48 +83,50 @@ abbrev pub withTerms : Fields → List ℕ → Fields
 withTerms x ts = fields (x .kind) (x .time) (x .serial) (x .urgency) (x .number) (x .k) (x .pairs) ts (x .amounts)
 
 module _ (x : Fields) where
-  -- no kind needs more than sixteen terms, if those with pairs don't
+  -- no kind needs more terms than a message can have pairs, if those with pairs don't
   abbrev Cut : ℕ → Type 0
-  Cut k = fromKind k (withTerms x (take 16 (x .terms))) ≡ fromKind k x
+  Cut k = fromKind k (withTerms x (take mostPairs (x .terms))) ≡ fromKind k x
 
-  by-pairs : Cut 1 → Cut 3 → Cut 6 → (k : ℕ) → Cut k
+  by-pairs : Cut 1 → Cut 3 → Cut 6 → Cut 7 → (k : ℕ) → Cut k
   unfolding fromKind rowOf headWithin
-  by-pairs message register urgent =
-      by-kind Cut message (rw (long-cut 0 16 (x .terms) (omega arith), beside-cut 0 16 (x .terms) (x .amounts) (omega arith)))
-      register (rw (long-cut 0 16 (x .terms) (omega arith), beside-cut 0 16 (x .terms) (x .amounts) (omega arith)))
-      (rw (long-cut 0 16 (x .terms) (omega arith), beside-cut 0 16 (x .terms) (x .amounts) (omega arith)))
-      urgent
-      (λ k none. unknown-kind (withTerms x (take 16 (x .terms))) k none ∙ sym (unknown-kind x k none))
+  by-pairs message register graded long =
+      by-kind Cut message (rw (long-cut 0 mostPairs (x .terms) (omega arith), beside-cut 0 mostPairs (x .terms) (x .amounts) (omega arith)))
+      register (rw (long-cut 0 mostPairs (x .terms) (omega arith), beside-cut 0 mostPairs (x .terms) (x .amounts) (omega arith)))
+      (rw (long-cut 0 mostPairs (x .terms) (omega arith), beside-cut 0 mostPairs (x .terms) (x .amounts) (omega arith)))
+      graded
+      long
+      (λ k none. unknown-kind (withTerms x (take mostPairs (x .terms))) k none ∙ sym (unknown-kind x k none))
 
-  few-cut : x .pairs ≤ 16 → (k : ℕ) → Cut k
+  few-cut : x .pairs ≤ mostPairs → (k : ℕ) → Cut k
   unfolding fromKind rowOf headWithin
   few-cut h =
-      by-pairs (rw (long-cut (x .pairs) 16 (x .terms) h, beside-cut (x .pairs) 16 (x .terms) (x .amounts) h))
-      (rw (long-cut (x .pairs) 16 (x .terms) h, beside-cut (x .pairs) 16 (x .terms) (x .amounts) h))
-      (rw (long-cut (x .pairs) 16 (x .terms) h, beside-cut (x .pairs) 16 (x .terms) (x .amounts) h))
+      by-pairs (rw (long-cut (x .pairs) mostPairs (x .terms) h, beside-cut (x .pairs) mostPairs (x .terms) (x .amounts) h))
+      (rw (long-cut (x .pairs) mostPairs (x .terms) h, beside-cut (x .pairs) mostPairs (x .terms) (x .amounts) h))
+      (rw (long-cut (x .pairs) mostPairs (x .terms) h, beside-cut (x .pairs) mostPairs (x .terms) (x .amounts) h))
+      (rw (long-cut (x .pairs) mostPairs (x .terms) h, beside-cut (x .pairs) mostPairs (x .terms) (x .amounts) h))
 
-  many-cut : 16 < x .pairs → (k : ℕ) → Cut k
+  many-cut : mostPairs < x .pairs → (k : ℕ) → Cut k
   unfolding fromKind rowOf headWithin
   many-cut h =
-      by-pairs (rw (lt-leb (x .pairs) 16 h) (simp and-false)) (rw (lt-leb (x .pairs) 8 (omega arith)) (simp and-false))
-      (rw (lt-leb (x .pairs) 16 h) (simp and-false))
+      by-pairs (rw (lt-leb (x .pairs) (2 ^ pairsWidth) (omega arith)) (simp and-false)) (rw (lt-leb (x .pairs) 8 (omega arith)) (simp and-false))
+      (rw (lt-leb (x .pairs) (2 ^ pairsWidth) (omega arith)) (simp and-false)) (rw (lt-leb (x .pairs) mostPairs h) (simp and-false))
 
-  fields-cut : fromFields (withTerms x (take 16 (x .terms))) ≡ fromFields x
-  fields-cut = go (leb (x .pairs) 16) refl
+  fields-cut : fromFields (withTerms x (take mostPairs (x .terms))) ≡ fromFields x
+  fields-cut = go (leb (x .pairs) mostPairs) refl
     where
-      go : (t : Bool) → leb (x .pairs) 16 ≡ t → fromFields (withTerms x (take 16 (x .terms))) ≡ fromFields x
-      go true e = few-cut (leb-true (x .pairs) 16 e) (x .kind)
-      go false e = many-cut (leb-false (x .pairs) 16 e) (x .kind)
+      go : (t : Bool) → leb (x .pairs) mostPairs ≡ t → fromFields (withTerms x (take mostPairs (x .terms))) ≡ fromFields x
+      go true e = few-cut (leb-true (x .pairs) mostPairs e) (x .kind)
+      go false e = many-cut (leb-false (x .pairs) mostPairs e) (x .kind)
 
--- as many terms as there are, at most sixteen
-take-cut : (count : ℕ) (ts : List ℕ) → count ≤ 16 → (count < 16 → count ≡ length ts) → take count ts ≡ take 16 ts
-take-cut count ts h all = go (leb 16 count) refl
+-- as many terms as there are, at most those
+take-cut : (count : ℕ) (ts : List ℕ) → count ≤ mostPairs → (count < mostPairs → count ≡ length ts) → take count ts ≡ take mostPairs ts
+take-cut count ts h all = go (leb mostPairs count) refl
   where
-    go : (t : Bool) → leb 16 count ≡ t → take count ts ≡ take 16 ts
-    go true e = let s : count ≡ 16 = omega (arith, leb-true 16 count e) in rw s
+    go : (t : Bool) → leb mostPairs count ≡ t → take count ts ≡ take mostPairs ts
+    go true e = let s : count ≡ mostPairs = omega (arith, leb-true mostPairs count e) in rw s
     go false e =
-        let s = all (leb-false 16 count e) in
-        take-all count ts (omega arith) ∙ sym (take-all 16 ts (omega arith))
+        let s = all (leb-false mostPairs count e) in
+        take-all count ts (omega arith) ∙ sym (take-all mostPairs ts (omega arith))
 
 -- ---- a number and a size in one number
 
@@ -133,20 +135,20 @@ pub both-heard : (number size : ℕ) → size < 4294967296
     → (number ≡ (number * 4294967296 + size) / 4294967296) × (size ≡ (number * 4294967296 + size) % 4294967296)
 both-heard number size h = (omega arith, omega arith)
 
--- no frame has more than 44 bytes
-pub written-most : (x : Fields) {s t : List ℕ} {w : Written} → WritePost (fromFields x) s t w → w .length ≤ 44
+-- no frame has more than 80 bytes
+pub written-most : (x : Fields) {s t : List ℕ} {w : Written} → WritePost (fromFields x) s t w → w .length ≤ 80
 unfolding total
 written-most x {w = w} p = go (fromFields x) refl (eqb (w .number) 0) (p .size)
   where
-    go : (sh : Shape) → fromFields x ≡ sh → (b : Bool) → w .length ≡ cond b (length (bytesOf sh)) 0 → w .length ≤ 44
+    go : (sh : Shape) → fromFields x ≡ sh → (b : Bool) → w .length ≡ cond b (length (bytesOf sh)) 0 → w .length ≤ 80
     go sh e false l = omega arith
     go (refused n) e true l = omega arith
     go (accepted f) e true l = let m = encode-most f (fields-valid x f e) in omega arith
 
-pub write-heard : (x : Fields) (count : ℕ) {first s t : List ℕ} {w : Written} → first ≡ take count (x .terms) → count ≤ 16 → (count < 16 → count ≡ length (x .terms))
+pub write-heard : (x : Fields) (count : ℕ) {first s t : List ℕ} {w : Written} → first ≡ take count (x .terms) → count ≤ mostPairs → (count < mostPairs → count ≡ length (x .terms))
     → WritePost (fromFields (withTerms x first)) s t w → WritePost (fromFields x) s t (heardWriting (w .number * 4294967296 + w .length))
 write-heard x count {first} {s} {t} {w} e h all p =
-    let m : w .length ≤ 44 = written-most (withTerms x first) p in
+    let m : w .length ≤ 80 = written-most (withTerms x first) p in
     let e′ = both-heard (w .number) (w .length) (omega arith) in
     let same : w ≡ heardWriting (w .number * 4294967296 + w .length) = λ i. record { number = e′ .0 i; length = e′ .1 i } in
     let cut : fromFields (withTerms x first) ≡ fromFields x = rw (e, take-cut count (x .terms) h all) (fields-cut x) in

@@ -4,16 +4,16 @@ use mathlib.Core.Path.{_≡_}
 use mathlib.Core.List.{List}
 use lib.ListN.{length}
 use Rattle.wire.specs.Bits.{Bytes}
-use Rattle.paper.specs.Frame.{Frame, shape, gradedRow, widths, countWidth, mostPairs, bitsOf, bytesFor}
+use Rattle.paper.specs.Frame.{Frame, shape, longRow, widths, countWidth, mostPairs, bitsOf, bytesFor}
 use Rattle.paper.specs.Frame.Shape.{accepted}
 use Rattle.paper.specs.Window.{mostMessages}
 use Rattle.paper.specs.Layout.{stateLength}
 use Rattle.paper.specs.Log.{Log, postingLength, posted}
 use Rattle.fennelrake.specs.Entry.{frameAnswer, listAnswer, searchAnswer}
 
--- room for every frame that is accepted: a graded message of the most pairs is the longest
+-- room for every frame that is accepted: a long message of the most pairs is the longest
 abbrev pub frameRoom : ℕ
-frameRoom = bytesFor (bitsOf (widths gradedRow) countWidth mostPairs)
+frameRoom = bytesFor (bitsOf (widths longRow) countWidth mostPairs)
 
 -- room for every reading of postings: the most messages in force, which all have the term
 abbrev pub postingsRoom : ℕ

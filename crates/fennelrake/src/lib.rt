@@ -3,12 +3,14 @@ ghost use mathlib.Core.Path.{_≡_};
 ghost use mathlib.Core.List.{_∷_, _++_};
 ghost use Prim.Native.Nat.{_+_, _*_, _≤_, _<_};
 ghost use lib.ListN.{length, take};
+ghost use Rattle.paper.specs.Frame.{mostPairs};
 ghost use Rattle.paper.specs.Write.{fromFields};
 ghost use Rattle.memory.specs.Words.{bigWords};
 ghost use Rattle.frame.specs.Write.{fields, WritePost};
 ghost use Rattle.engine.specs.Post.{StartPost, PostingsPost};
 ghost use Rattle.fennelrake.specs.Entry.{listAnswer, FrameEntry, ListEntry, SearchEntry, termsOf, heardFound, heardWriting};
 use paper::MOST_LISTED;
+use paper::MOST_PAIRS;
 
 // How many bytes the answers take, and where in a list's the scores start and in a search's the postings read stand, in words.
 const FRAME_ANSWER: usize = 4 * 2;
@@ -119,11 +121,11 @@ fn wide(x: u8) -> u16
 }
 
 // The first terms, two bytes each.
-fn first_terms(bytes: &[u8], count: usize) -> [u16; 16]
-    requires { ⌜ (count ≤ 16) × (2 * count ≤ length (now bytes)) ⌝ }
+fn first_terms(bytes: &[u8], count: usize) -> [u16; MOST_PAIRS]
+    requires { ⌜ (count ≤ mostPairs) × (2 * count ≤ length (now bytes)) ⌝ }
     ensures { λ r. ⌜ take count r ≡ take count (termsOf (now (bytes .entry))) ⌝ }
 {
-    let mut terms = [0u16; 16];
+    let mut terms = [0u16; MOST_PAIRS];
     let mut i: usize = 0;
     while i < count {
         let at = 2 * i;
@@ -135,14 +137,14 @@ fn first_terms(bytes: &[u8], count: usize) -> [u16; 16]
     terms
 }
 
-fn at_most_16(n: usize) -> usize
-    ensures { λ r. ⌜ (r ≤ 16) × (r ≤ n) × (r < 16 → r ≡ n) ⌝ }
+fn at_most_all(n: usize) -> usize
+    ensures { λ r. ⌜ (r ≤ mostPairs) × (r ≤ n) × (r < mostPairs → r ≡ n) ⌝ }
 {
-    if n < 16 { n } else { 16 }
+    if n < MOST_PAIRS { n } else { MOST_PAIRS }
 }
 
 // The frame with these fields, into out: number times 2 to the 32, and length. Terms are two bytes each, amounts one. No frame has more than
-// sixteen pairs, so later terms are never looked at.
+// MOST_PAIRS pairs, so later terms are never looked at.
 #[no_mangle]
 pub extern "C" fn fennelrake_write(
     kind: u32,
@@ -158,7 +160,7 @@ pub extern "C" fn fennelrake_write(
 ) -> u64
     ensures { λ r. ⌜ WritePost (fromFields (fields kind time serial urgency number k pairs (termsOf (now (terms .entry))) (now (amounts .entry)))) (now (out .entry)) (now (out .exit)) (heardWriting r) ⌝ }
 {
-    let count = at_most_16(terms.len() / 2);
+    let count = at_most_all(terms.len() / 2);
     let first = first_terms(terms, count);
     let written = frame::write(
         out,

@@ -19,7 +19,7 @@ use Rattle.paper.specs.Search.{asked, refusalOf, queryIn}
 use Rattle.paper.specs.Sound.{Terms}
 use Rattle.paper.proofs.FrameLaws.{by-test, or-refused, shape-number, shape-valid}
 use Rattle.frame.specs.declared.Kind.{Kind}
-use Rattle.frame.specs.declared.Kind.the-variants.{Message, Tick, Register, Unregister, Cancel, Urgent, Refused}
+use Rattle.frame.specs.declared.Kind.the-variants.{Message, Tick, Register, Unregister, Cancel, Refused}
 use Rattle.frame.specs.declared.Parsed.{Parsed}
 use Rattle.frame.specs.declared.Asked.{Asked}
 use Rattle.frame.specs.Read.{ReadPost, checkNumber, pairsRead, termArray, amountArray}
@@ -62,7 +62,7 @@ module _ (s : List ℕ) where
       let P : Shape → Type 0 = λ x. refused 2 ≡ askedOf (λ r. 2) x in
       by-frame P k (λ r. refl)
       (λ vs ps. by-test P (eqb k 1) (λ _. refl) (λ _. by-test P (eqb k 2) (λ _. refl) (λ _. rw other
-      (by-test P (eqb k 4) (λ _. refl) (λ _. by-test P (eqb k 5) (λ _. refl) (λ _. by-test P (eqb k 6) (λ _. refl) (λ _. refl)))))))
+      (by-test P (eqb k 4) (λ _. refl) (λ _. by-test P (eqb k 5) (λ _. refl) (λ _. by-test P (eqb k 6) (λ _. refl) (λ _. by-test P (eqb k 7) (λ _. refl) (λ _. refl))))))))
 
   asked-shape : asked s ≡ askedOf (askedNumber s) (shape s)
   unfolding asked shape askedNumber
@@ -86,12 +86,11 @@ module _ (s : List ℕ) (p : Parsed) (post : ReadPost (shape s) p) where
     where
       go : (what : Kind) → ((t n k m : ℕ) → what ≡ Register t n k m → ⊥) → ((number : ℕ) → what ≡ Refused number → ⊥)
           → askedOf (askedNumber s) (told what (p .terms) (p .amounts)) ≡ refused 2
-      go (Message t n m) a b = refl
+      go (Message f t n u m) a b = refl
       go (Tick t) a b = refl
       go (Register t n k m) a b = absurd (a t n k m refl)
       go (Unregister t n) a b = refl
       go (Cancel t n) a b = refl
-      go (Urgent t n u m) a b = refl
       go (Refused r) a b = absurd (b r refl)
 
   pub asked-register : (t n k m : ℕ) → p .what ≡ Register t n k m

@@ -10,33 +10,50 @@ use lib.ListN.{length, take, drop, getD, set}
 use lib.Seq.{take-suc, drop-cons, length-take-le}
 use lib.Dec.{eqb, leb, ltb, lit≤, lit<}
 use lib.Pow.{pow-mono}
-use borrow.Author.Tests.{ltb-true, leb-true, leb-false, lt-ltb, le-ltb, le-leb, lt-leb}
+use borrow.Author.Tests.{eqb-true, eqb-false, ne-eqb, ltb-true, leb-true, leb-false, lt-ltb, le-ltb, le-leb, lt-leb}
 use Rattle.wire.specs.Bits.{bits, unpack}
 use Rattle.wire.specs.Field.{field, placed, total, spell, scan}
 use Rattle.wire.proofs.BitLaws.{length-bits}
 use Rattle.wire.proofs.FieldLaws.{field-lt}
 use Rattle.wire.proofs.LayoutLaws.{total-append, scan-append, spell-append}
-use Rattle.paper.specs.Frame.{Pair, Field, Row as TableRow, kindWidth, width, widths, rowOf, valuesAt, pairsBy, messageRow, tickRow, registerRow, unregisterRow, cancelRow, gradedRow, gradeKnown, gradesKnown, frameOf, termWidth}
+use Rattle.paper.specs.Frame.{Pair, Urgency, Form, Field, Fields, Row as TableRow, urgencyOf, kindOf, gradeOf, kindWidth, width, widths, rowOf, valuesAt, pairsBy, messageRow, tickRow, registerRow, unregisterRow, cancelRow, gradedBy, noRow, gradeKnown, gradesKnown, frameOf, termWidth, pairsWidth, longPairsWidth, mostPairs}
 use Rattle.paper.specs.Frame.Field.{plain, lessOne as lessOneField, grade}
-use Rattle.paper.specs.Write.{within}
-use Rattle.paper.proofs.FrameLaws.{by-kind}
+use Rattle.paper.specs.Frame.Form.{graded, long}
+use Rattle.paper.specs.Frame.Frame.{message}
+use Rattle.paper.specs.Frame.Shape.{refused, accepted}
+use Rattle.paper.specs.Write.{within, headWithin}
+use Rattle.paper.proofs.FrameLaws.{no-row, by-kind, level-of}
 use Rattle.paper.proofs.WriteLaws.{and-left, and-right}
+use Rattle.frame.specs.declared.Kind.the-variants.{Message}
 use Rattle.frame.specs.declared.Row.{Row}
-use Rattle.frame.specs.Read.{Narrow, RowWith, RowPost, padded}
-use Rattle.frame.specs.Write.{fitting, lessOne, laid}
+use Rattle.frame.specs.Read.{Narrow, RowWith, RowPost, padded, answerOf}
+use Rattle.frame.specs.Write.{ValuesPost, fitting, lessOne, laid}
 use Rattle.frame.proofs.LaidLaws.{laid-field, laid-then, spell-length}
 use Rattle.frame.proofs.PairLaws.{padded-more}
 
 -- ---- the rows
 
--- what the arrays of five and of sixteen have room for
+-- what the arrays of fields and of pairs have room for
 pub record Small (s : List ℕ) (row : TableRow) : Type 0 where
   pub places : length (row .head) ≤ 5
   pub narrow : Narrow (map width (row .head))
-  pub short : total (widths row) ≤ 62
+  pub short : total (widths row) ≤ 63
   pub light : row .amount ≤ 8
-  pub few : pairsBy row (valuesAt s row) ≤ 16
+  pub few : pairsBy row (valuesAt s row) ≤ mostPairs
   pub third : getD (valuesAt s row) 2 0 < 16
+
+graded-small : (s : List ℕ) (w : ℕ) → w ≤ longPairsWidth → Small s (gradedBy w)
+unfolding total scan
+graded-small s w h =
+    let most : 2 ^ w ≤ mostPairs = pow-mono h in
+    record {
+      places = lit≤ tt;
+      narrow = (lit≤ tt, (lit≤ tt, (lit≤ tt, (omega arith, tt))));
+      short = omega arith;
+      light = lit≤ tt;
+      few = omega (arith, field-lt s 58 w);
+      third = omega (arith, field-lt s 56 2);
+    }
 
 pub small : (s : List ℕ) (k : ℕ) → Small s (rowOf k)
 unfolding rowOf total scan
@@ -61,14 +78,8 @@ small s =
     })
     (record { places = lit≤ tt; narrow = (lit≤ tt, (lit≤ tt, tt)); short = lit≤ tt; light = lit≤ tt; few = lit≤ tt; third = lit< tt })
     (record { places = lit≤ tt; narrow = (lit≤ tt, (lit≤ tt, tt)); short = lit≤ tt; light = lit≤ tt; few = lit≤ tt; third = lit< tt })
-    (record {
-      places = lit≤ tt;
-      narrow = (lit≤ tt, (lit≤ tt, (lit≤ tt, (lit≤ tt, tt))));
-      short = lit≤ tt;
-      light = lit≤ tt;
-      few = omega (arith, field-lt s 58 4);
-      third = omega (arith, field-lt s 56 2);
-    })
+    (graded-small s pairsWidth (lit≤ tt))
+    (graded-small s longPairsWidth (lit≤ tt))
     (λ k none. subst (Small s) (sym none) (record { places = lit≤ tt; narrow = tt; short = lit≤ tt; light = lit≤ tt; few = lit≤ tt; third = lit< tt }))
 
 -- the row with a table row's fields is that row
@@ -156,26 +167,72 @@ none-graded [] vs h = refl
 none-graded (x ∷ xs) [] h = refl
 none-graded (x ∷ xs) (v ∷ vs) h = rw (h .0 v, none-graded xs vs (h .1))
 
--- only kind 6 has a grade, at the third place
-pub grade-none : (vs : List ℕ) (k : ℕ) → (k ≡ 6 → ⊥) → gradesKnown (rowOf k .head) vs ≡ true
+-- kinds 6 and 7 are messages with a grade
+pub record GradedKind (k : ℕ) : Type 0 where
+  pub width : ℕ
+  pub small : width ≤ longPairsWidth
+  pub form : Urgency → Form
+  pub row : rowOf k ≡ gradedBy width
+  pub frame : (vs : List ℕ) (ps : List Pair) → frameOf k vs ps ≡ accepted (message (getD vs 0 0) (getD vs 1 0) (form (urgencyOf (getD vs 2 0))) ps)
+  pub grade : (u : Urgency) → (kindOf (form u) ≡ k) × (gradeOf (form u) ≡ u)
+
+pub graded-kind : (k : ℕ) → 6 ≤ k → k ≤ 7 → GradedKind k
+unfolding rowOf frameOf
+graded-kind k h l = go (eqb k 6) refl
+  where
+    go : (b : Bool) → eqb k 6 ≡ b → GradedKind k
+    go true e = rw (eqb-true k 6 e) (record { width = pairsWidth; small = lit≤ tt; form = graded; row = refl; frame = λ vs ps. refl; grade = λ u. (refl, refl) })
+    go false e =
+        let seven : k ≡ 7 = let n = eqb-false k 6 e in omega arith in
+        rw seven (record { width = longPairsWidth; small = lit≤ tt; form = long; row = refl; frame = λ vs ps. refl; grade = λ u. (refl, refl) })
+
+-- a kind that is none of the seven
+pub record NoKind (k : ℕ) : Type 0 where
+  pub row : rowOf k ≡ noRow
+  pub frame : (vs : List ℕ) (ps : List Pair) → frameOf k vs ps ≡ refused 2
+
+pub no-kind : (k : ℕ) → (k ≡ 1 → ⊥) → (k ≡ 2 → ⊥) → (k ≡ 3 → ⊥) → (k ≡ 4 → ⊥) → (k ≡ 5 → ⊥) → (6 ≤ k → k ≤ 7 → ⊥) → NoKind k
+unfolding frameOf
+no-kind k a b c d e none =
+    let f : k ≡ 6 → ⊥ = λ z. none (omega arith) (omega arith) in
+    let g : k ≡ 7 → ⊥ = λ z. none (omega arith) (omega arith) in
+    record {
+      row = no-row k a b c d e f g;
+      frame = λ vs ps. rw (ne-eqb k 1 a, ne-eqb k 2 b, ne-eqb k 3 c, ne-eqb k 4 d, ne-eqb k 5 e, ne-eqb k 6 f, ne-eqb k 7 g);
+    }
+
+-- no other kind than 6 and 7 has a grade
+pub grade-none : (vs : List ℕ) (k : ℕ) → (6 ≤ k → k ≤ 7 → ⊥) → gradesKnown (rowOf k .head) vs ≡ true
 unfolding rowOf gradesKnown
 grade-none vs =
-    by-kind (λ k. (k ≡ 6 → ⊥) → gradesKnown (rowOf k .head) vs ≡ true)
+    by-kind (λ k. (6 ≤ k → k ≤ 7 → ⊥) → gradesKnown (rowOf k .head) vs ≡ true)
     (λ _. none-graded (messageRow .head) vs ((λ v. refl), ((λ v. refl), ((λ v. refl), tt))))
     (λ _. none-graded (tickRow .head) vs ((λ v. refl), tt))
     (λ _. none-graded (registerRow .head) vs ((λ v. refl), ((λ v. refl), ((λ v. refl), ((λ v. refl), tt)))))
     (λ _. none-graded (unregisterRow .head) vs ((λ v. refl), ((λ v. refl), tt)))
     (λ _. none-graded (cancelRow .head) vs ((λ v. refl), ((λ v. refl), tt)))
-    (λ h. absurd (h refl))
+    (λ h. absurd (h (lit≤ tt) (lit≤ tt)))
+    (λ h. absurd (h (lit≤ tt) (lit≤ tt)))
     (λ k none _. rw none)
 
-pub grade-third : (vs : List ℕ) → gradesKnown (gradedRow .head) vs ≡ leb (getD vs 2 0) 2
+third-known : (w : ℕ) (vs : List ℕ) → gradesKnown (gradedBy w .head) vs ≡ leb (getD vs 2 0) 2
 unfolding gradesKnown
-grade-third [] = refl
-grade-third (a ∷ []) = refl
-grade-third (a ∷ b ∷ []) = refl
-grade-third (a ∷ b ∷ c ∷ []) = and-true (leb c 2)
-grade-third (a ∷ b ∷ c ∷ d ∷ vs) = and-true (leb c 2)
+third-known w [] = refl
+third-known w (a ∷ []) = refl
+third-known w (a ∷ b ∷ []) = refl
+third-known w (a ∷ b ∷ c ∷ []) = and-true (leb c 2)
+third-known w (a ∷ b ∷ c ∷ d ∷ vs) = and-true (leb c 2)
+
+pub grade-third : {k : ℕ} → GradedKind k → (vs : List ℕ) → gradesKnown (rowOf k .head) vs ≡ leb (getD vs 2 0) 2
+grade-third g vs = rw (g .row) (third-known (g .width) vs)
+
+-- the answer to a message with a grade that is one of the three
+pub graded-answer : {k : ℕ} → GradedKind k → (vs : List ℕ) (ps : List Pair) → gradesKnown (rowOf k .head) vs ≡ true
+    → answerOf (frameOf k vs ps) ≡ Message k (getD vs 0 0) (getD vs 1 0) (getD vs 2 0) (length ps)
+graded-answer g vs ps known =
+    let u = urgencyOf (getD vs 2 0) in
+    let few : getD vs 2 0 ≤ 2 = leb-true (getD vs 2 0) 2 (sym (grade-third g vs) ∙ known) in
+    rw (g .frame vs ps, g .grade u .0, g .grade u .1, level-of (getD vs 2 0) few)
 
 -- the number of pairs by the array
 pub pairs-read : (s : List ℕ) (k fields amount m : ℕ) (values : List ℕ) → fields ≡ length (rowOf k .head) → 0 < fields → amount ≡ rowOf k .amount
@@ -184,7 +241,7 @@ pairs-read s k fields amount m values ef h ea ev em =
     let p = small s k .places in
     rw (em, ea, ev, ef, getD-padded 5 (valuesAt s (rowOf k)) (length (rowOf k .head) - 1) (omega arith))
 
-pub pairs-light : (m w : ℕ) → m ≤ 16 → w ≤ 8 → m * (termWidth + w) ≤ 288
+pub pairs-light : (m w : ℕ) → m ≤ mostPairs → w ≤ 8 → m * (termWidth + w) ≤ 576
 pairs-light m w h k = mul-le-mul {m₂ = 18} h (omega arith)
 
 -- ---- values that are judged
@@ -229,6 +286,21 @@ less-none n h = rw h
 
 pub less-over : (n : ℕ) → 0 < n → 256 < n → lessOne n ≡ 2 ^ 32 - 1
 less-over n h k = rw (lt-ltb 0 n h, lt-leb n 256 k)
+
+-- the values of the fields of a message with a grade
+pub graded-values : (x : Fields) (values : List ℕ) → GradedKind (x .kind) → values ≡ x .time ∷ x .serial ∷ x .urgency ∷ lessOne (x .pairs) ∷ 0 ∷ []
+    → ValuesPost x values
+unfolding gradesKnown fitting headWithin
+graded-values x values g e =
+    let w = g .width in
+    let few : w ≤ 8 = let h = g .small in omega arith in
+    record {
+      grades = rw (g .row, e);
+      fit = rw (g .row, e, less-fits (x .pairs) w few);
+      are = λ t.
+          let h : headWithin (gradedBy w .head) x ≡ true = rw (g .row) at t in
+          rw (g .row, e, less-within (x .pairs) w few (search (and-left, and-right)));
+    }
 
 -- ---- values that are written
 

@@ -107,6 +107,7 @@ pairs-framed s vs at =
     (λ _. refl)
     (λ _. refl)
     (λ _. refl)
+    (λ _. refl)
     (λ k none h. let z : 0 < length (noRow .head) = subst (λ (row : Row). 0 < length (row .head)) none h in absurd (omega arith))
 
 -- the answer with the frame's pairs in its arrays

@@ -1,24 +1,26 @@
 -- The reader and the writer undo each other, by what they promise: reading what was written gives the fields, and writing what was read gives the
 -- bytes. Assumes nothing.
 use Prim.Native.Nat.{ℕ, zero, suc, _≤_}
-use native.Mathlib.Nat.{not-suc-le-zero, le-of-suc-le-suc}
+use native.Mathlib.Nat.{not-suc-le-zero, le-of-suc-le-suc, le-trans}
 use native.Mathlib.Omega.{arith}
 use mathlib.Core.Path.{_≡_, refl, sym, ap, _∙_}
+use mathlib.Core.Bool.{cond}
 use mathlib.Core.Logic.{_⊎_, inl, inr}
 use mathlib.Core.List.{List, [], _∷_, _++_, map}
 use lib.ListN.{length, take, drop}
 use lib.Seq.{take-at}
+use lib.Dec.{eqb}
 use borrow.Author.Tests.{le-leb}
 use Rattle.wire.specs.Bits.{Bytes}
-use Rattle.paper.specs.Frame.{Pair, Frame, Fields, Shape, Valid, urgencyOf, shape, encode, mostPairs}
+use Rattle.paper.specs.Frame.{Pair, Urgency, Form, Frame, Fields, Shape, Valid, urgencyOf, kindOf, gradeOf, shape, encode, mostPairs}
 use Rattle.paper.specs.Frame.Frame.{message, tick, register, unregister, cancel}
-use Rattle.paper.specs.Frame.Form.{ungraded, graded}
+use Rattle.paper.specs.Frame.Form.{ungraded, graded, long}
 use Rattle.paper.specs.Frame.Shape.{refused, accepted}
 use Rattle.paper.specs.Write.{side-by-side, fromFields, fieldsWith, pairsIn, writeNumber, bytesOf}
-use Rattle.paper.proofs.FrameLaws.{of-level, shape-valid, encode-shape}
+use Rattle.paper.proofs.FrameLaws.{of-level, form-most, shape-valid, encode-shape}
 use Rattle.paper.proofs.WriteLaws.{Beside, fields-number, fields-read, fields-with}
 use Rattle.frame.specs.declared.Kind.{Kind}
-use Rattle.frame.specs.declared.Kind.the-variants.{Message, Tick, Register, Unregister, Cancel, Urgent, Refused}
+use Rattle.frame.specs.declared.Kind.the-variants.{Message, Tick, Register, Unregister, Cancel, Refused}
 use Rattle.frame.specs.declared.Parsed.{Parsed}
 use Rattle.frame.specs.declared.Written.{Written}
 use Rattle.frame.specs.Read.{ReadPost, answerOf, pairsRead, padded, termArray, amountArray}
@@ -66,27 +68,34 @@ in-arrays ps h = record {
 
 -- ---- an answer tells its frame
 
+-- the form that a kind is, with an urgency where it says one
+abbrev pub formOf : ℕ → Urgency → Form
+formOf kind u = cond (eqb kind 1) ungraded (cond (eqb kind 6) (graded u) (long u))
+
+form-of : (g : Form) → formOf (kindOf g) (gradeOf g) ≡ g
+form-of ungraded = refl
+form-of (graded u) = refl
+form-of (long u) = refl
+
 -- what an answer and its arrays say
 abbrev pub told : Kind → List ℕ → List ℕ → Shape
-told (Message t s m) ts us = accepted (message t s ungraded (side-by-side m ts us))
+told (Message f t s u m) ts us = accepted (message t s (formOf f (urgencyOf u)) (side-by-side m ts us))
 told (Tick t) ts us = accepted (tick t)
 told (Register t n k m) ts us = accepted (register t n k (side-by-side m ts us))
 told (Unregister t n) ts us = accepted (unregister t n)
 told (Cancel t s) ts us = accepted (cancel t s)
-told (Urgent t s u m) ts us = accepted (message t s (graded (urgencyOf u)) (side-by-side m ts us))
 told (Refused r) ts us = refused r
 
 -- no frame has more pairs than the arrays have places
 pub pairs-most : (f : Frame) → Valid f → length (pairsIn f) ≤ mostPairs
-pairs-most (message t s g ps) v = v .pairs .at-most
+pairs-most (message t s g ps) v = le-trans (v .pairs .at-most) (form-most g)
 pairs-most (tick t) v = omega arith
 pairs-most (register t n k ps) v = let h = v .terms .at-most in omega arith
 pairs-most (unregister t n) v = omega arith
 pairs-most (cancel t s) v = omega arith
 
 told-frame : (f : Frame) → length (pairsIn f) ≤ mostPairs → told (answerOf (accepted f)) (termArray (pairsIn f)) (amountArray (pairsIn f)) ≡ accepted f
-told-frame (message t s ungraded ps) h = ap (λ (l : List Pair). accepted (message t s ungraded l)) (beside-padded mostPairs ps h)
-told-frame (message t s (graded u) ps) h = rw (of-level u, beside-padded mostPairs ps h)
+told-frame (message t s g ps) h = rw (of-level (gradeOf g), form-of g, beside-padded mostPairs ps h)
 told-frame (tick t) h = refl
 told-frame (register t n k ps) h = ap (λ (l : List Pair). accepted (register t n k l)) (beside-padded mostPairs ps h)
 told-frame (unregister t n) h = refl
@@ -102,17 +111,15 @@ read-told bytes r post = rw (post .what, post .terms, post .amounts) (go (shape 
 
 -- how many pairs an answer says
 abbrev pub countIn : Kind → ℕ
-countIn (Message t s m) = m
+countIn (Message f t s u m) = m
 countIn (Tick t) = 0
 countIn (Register t n k m) = m
 countIn (Unregister t n) = 0
 countIn (Cancel t s) = 0
-countIn (Urgent t s u m) = m
 countIn (Refused r) = 0
 
 pub count-answer : (x : Shape) → countIn (answerOf x) ≡ length (pairsRead x)
-count-answer (accepted (message t s ungraded ps)) = refl
-count-answer (accepted (message t s (graded u) ps)) = refl
+count-answer (accepted (message t s g ps)) = refl
 count-answer (accepted (tick t)) = refl
 count-answer (accepted (register t n k ps)) = refl
 count-answer (accepted (unregister t n)) = refl
@@ -129,6 +136,7 @@ fields-in f r v got =
     same : (g : Frame) (ts us : List ℕ) → fieldsBy (answerOf (accepted g)) ts us ≡ fieldsWith g ts us
     same (message t s ungraded ps) ts us = refl
     same (message t s (graded u) ps) ts us = refl
+    same (message t s (long u) ps) ts us = refl
     same (tick t) ts us = refl
     same (register t n k ps) ts us = refl
     same (unregister t n) ts us = refl

@@ -1,5 +1,5 @@
 -- What the reader answers: for each case of a frame the answer's case and values, and the pairs in two arrays.
--- Document 01, "The frame" and "Replies", and document 02, T-02 and T-04. Assumes nothing.
+-- Document 01, "The frame" and "Replies", and document 02, T-02, T-04 and T-06. Assumes nothing.
 use Prim.Native.Nat.{ℕ, zero, suc, _+_, _*_, _≤_}
 use mathlib.Core.Path.{_≡_}
 use mathlib.Core.Bool.{Bool, true, cond}
@@ -7,21 +7,19 @@ use mathlib.Core.List.{List, [], _∷_, map}
 use lib.ListN.{length, take, getD}
 use lib.Dec.{eqb, leb}
 use Rattle.wire.specs.Field.{field, total}
-use Rattle.paper.specs.Frame.{Pair, Row as TableRow, Shape, kindWidth, width, widths, rowOf, level, gradesKnown, frameOf, positive, rising, pairsAt, bytesFor, fillAfter, termWidth, mostPairs}
+use Rattle.paper.specs.Frame.{Pair, Row as TableRow, Shape, kindWidth, width, widths, rowOf, kindOf, gradeOf, level, gradesKnown, frameOf, positive, rising, pairsAt, bytesFor, fillAfter, termWidth, mostPairs}
 use Rattle.paper.specs.Frame.Frame.{message, tick, register, unregister, cancel}
-use Rattle.paper.specs.Frame.Form.{ungraded, graded}
 use Rattle.paper.specs.Frame.Shape.{refused, accepted}
 use Rattle.paper.specs.Write.{pairsIn}
 use Rattle.frame.specs.declared.Kind.{Kind}
-use Rattle.frame.specs.declared.Kind.the-variants.{Message, Tick, Register, Unregister, Cancel, Urgent, Refused}
+use Rattle.frame.specs.declared.Kind.the-variants.{Message, Tick, Register, Unregister, Cancel, Refused}
 use Rattle.frame.specs.declared.Parsed.{Parsed}
 use Rattle.frame.specs.declared.PairList.{PairList}
 use Rattle.frame.specs.declared.Row.{Row}
 
 -- the answer's case and values, for each case of a frame, and the number of a refusal
 abbrev pub answerOf : Shape → Kind
-answerOf (accepted (message t s ungraded ps)) = Message t s (length ps)
-answerOf (accepted (message t s (graded u) ps)) = Urgent t s (level u) (length ps)
+answerOf (accepted (message t s g ps)) = Message (kindOf g) t s (level (gradeOf g)) (length ps)
 answerOf (accepted (tick t)) = Tick t
 answerOf (accepted (register t n k ps)) = Register t n k (length ps)
 answerOf (accepted (unregister t n)) = Unregister t n

@@ -1,4 +1,4 @@
--- What the writer answers and leaves in the output. Document 01, "The frame" and "Replies", and document 02, T-02 and T-04. Assumes nothing.
+-- What the writer answers and leaves in the output. Document 01, "The frame" and "Replies", and document 02, T-02, T-04 and T-06. Assumes nothing.
 use Prim.Native.Nat.{ℕ, _+_, _-_, _^_}
 use mathlib.Core.Path.{_≡_}
 use mathlib.Core.Bool.{Bool, true, cond, _&&_}
@@ -10,7 +10,7 @@ use Rattle.paper.specs.Frame.{Fields, Shape, width, rowOf, gradesKnown, termWid
 use Rattle.paper.specs.Write.{side-by-side, within, allWithin, headWithin, valueOf, fieldsFor, writeNumber, bytesOf}
 use Rattle.wire.specs.Field.{spell}
 use Rattle.frame.specs.declared.Kind.{Kind}
-use Rattle.frame.specs.declared.Kind.the-variants.{Message, Tick, Register, Unregister, Cancel, Urgent, Refused}
+use Rattle.frame.specs.declared.Kind.the-variants.{Message, Tick, Register, Unregister, Cancel, Refused}
 use Rattle.frame.specs.declared.Parsed.{Parsed}
 use Rattle.frame.specs.declared.Written.{Written}
 use Rattle.frame.specs.Read.{pairsNumber}
@@ -28,12 +28,11 @@ pub record WritePost (sh : Shape) (s t : List ℕ) (r : Written) : Type 0 where
 
 -- the fields that an answer of the reader lists, for the writer; none of a kind for a refusal
 abbrev pub fieldsBy : Kind → List ℕ → List ℕ → Fields
-fieldsBy (Message t s n) terms amounts = fields 1 t s 0 0 0 n terms amounts
+fieldsBy (Message form t s u n) terms amounts = fields form t s u 0 0 n terms amounts
 fieldsBy (Tick t) terms amounts = fields 2 t 0 0 0 0 0 terms amounts
 fieldsBy (Register t n k m) terms amounts = fields 3 t 0 0 n k m terms amounts
 fieldsBy (Unregister t n) terms amounts = fields 4 t 0 0 n 0 0 terms amounts
 fieldsBy (Cancel t s) terms amounts = fields 5 t s 0 0 0 0 terms amounts
-fieldsBy (Urgent t s u n) terms amounts = fields 6 t s u 0 0 n terms amounts
 fieldsBy (Refused r) terms amounts = fields 0 0 0 0 0 0 0 terms amounts
 
 abbrev pub fieldsIn : Parsed → Fields

@@ -7,19 +7,23 @@ ghost use mathlib.Core.Bool.{cond};
 ghost use mathlib.Core.List.{List, _∷_};
 ghost use Rattle.wire.specs.Bits.{unpack};
 ghost use Rattle.wire.specs.Field.{field, placed, total, spell, scan};
-ghost use Rattle.paper.specs.Frame.{shape, shapeOfKind, rowOf, gradesKnown, kindWidth, written, bytesFor, fillAfter};
+ghost use Rattle.paper.specs.Frame.{shape, shapeOfKind, rowOf, gradesKnown, kindWidth, mostPairs, written, bytesFor, fillAfter};
 ghost use Rattle.paper.specs.Frame.Shape.{refused};
 ghost use Rattle.paper.specs.Write.{fromFields, side-by-side};
 ghost use Rattle.paper.specs.Search.{asked};
 ghost use Rattle.frame.specs.Read.{ReadPost, PairsPost, CheckedPost, RowWith, RowPost, FramedPost, Narrow, padded, judgeNext, fitNumber};
 ghost use Rattle.frame.specs.Ask.{AskedPost, askedNumber};
 ghost use Rattle.frame.specs.Write.{WritePost, ValuesPost, PutPost, fields, fitting, lessOne, soundPair, pairsVerdict, pairBits, laid};
+use paper::MOST_PAIRS;
 
 // What a frame is, or the number that refuses it. Its pairs stand beside it, in Parsed.
 pub enum Kind {
+    // The form is the kind that it was written in: 1, whose messages are routine, 6 or 7.
     Message {
+        form: u32,
         time: u32,
         serial: u32,
+        urgency: u32,
         pairs: usize,
     },
     Tick {
@@ -39,27 +43,21 @@ pub enum Kind {
         time: u32,
         serial: u32,
     },
-    Urgent {
-        time: u32,
-        serial: u32,
-        urgency: u32,
-        pairs: usize,
-    },
     Refused(u32),
 }
 
 // The places of both arrays past the frame's pairs are 0.
 pub struct Parsed {
     pub what: Kind,
-    pub terms: [u32; 16],
-    pub amounts: [u32; 16],
+    pub terms: [u32; MOST_PAIRS],
+    pub amounts: [u32; MOST_PAIRS],
 }
 
 // A frame's pairs; where they are refused, number says by what, and else is 0.
 struct PairList {
     number: u32,
-    terms: [u32; 16],
-    amounts: [u32; 16],
+    terms: [u32; MOST_PAIRS],
+    amounts: [u32; MOST_PAIRS],
 }
 
 // A kind's row of the table: the widths of its fields after the kind, in the first places of an array, and of a count or weight, which is 0 where the
@@ -94,6 +92,7 @@ fn row_of(kind: u32) -> Row
         4 => row_with(2, [32, 5, 0, 0, 0], 0),
         5 => row_with(2, [32, 20, 0, 0, 0], 0),
         6 => row_with(4, [32, 20, 2, 4, 0], 8),
+        7 => row_with(4, [32, 20, 2, 5, 0], 8),
         _ => row_with(0, [0, 0, 0, 0, 0], 0),
     }
 }
@@ -103,7 +102,7 @@ fn graded(kind: u32, values: [u32; 5]) -> bool
     ensures { λ r. ⌜ r ≡ gradesKnown (rowOf kind .head) values ⌝ }
 {
     match kind {
-        6 => values[2] < 3,
+        6 | 7 => values[2] < 3,
         _ => true,
     }
 }
@@ -158,11 +157,11 @@ fn low_bits(both: u32, width: usize) -> u32
 // The m pairs from bit `at`, whose counts or weights have `width` bits.
 fn take_pairs(bytes: &[u8], at: usize, width: usize, m: usize) -> PairList
     requires { ⌜ at + m * (10 + width) ≤ 8 * length (now bytes) ⌝ }
-    requires { ⌜ (at + m * (10 + width) ≤ 1024) × (m ≤ 16) × (width ≤ 22) ⌝ }
+    requires { ⌜ (at + m * (10 + width) ≤ 1024) × (m ≤ mostPairs) × (width ≤ 22) ⌝ }
     ensures { λ r. ⌜ PairsPost (now (bytes .entry)) at width m r ⌝ }
 {
-    let mut terms = [0u32; 16];
-    let mut amounts = [0u32; 16];
+    let mut terms = [0u32; MOST_PAIRS];
+    let mut amounts = [0u32; MOST_PAIRS];
     let mut number = 0;
     let mut least = 0;
     let mut next = at;
@@ -197,15 +196,15 @@ fn grade_first(known: bool, number: u32) -> u32
 
 // The m pairs after a head of so many bits, whose grade is known or not, where nothing of 3, 4, 14, 5 and 6 refuses them.
 fn checked_pairs(bytes: &[u8], head: usize, width: usize, m: usize, known: bool) -> PairList
-    requires { ⌜ (head + m * (10 + width) ≤ 1024) × (m ≤ 16) × (width ≤ 22) ⌝ }
+    requires { ⌜ (head + m * (10 + width) ≤ 1024) × (m ≤ mostPairs) × (width ≤ 22) ⌝ }
     ensures { λ r. ⌜ CheckedPost (now (bytes .entry)) head width m known r ⌝ }
 {
     let number = misfit(bytes, head + m * (10 + width));
     if number != 0 {
         return PairList {
             number,
-            terms: [0u32; 16],
-            amounts: [0u32; 16],
+            terms: [0u32; MOST_PAIRS],
+            amounts: [0u32; MOST_PAIRS],
         };
     }
     let mut p = take_pairs(bytes, head, width, m);
@@ -218,8 +217,8 @@ fn refusal(number: u32) -> Parsed
 {
     Parsed {
         what: Kind::Refused(number),
-        terms: [0u32; 16],
-        amounts: [0u32; 16],
+        terms: [0u32; MOST_PAIRS],
+        amounts: [0u32; MOST_PAIRS],
     }
 }
 
@@ -261,8 +260,10 @@ fn framed(kind: u32, values: [u32; 5], m: usize) -> Kind
     let time = values[0];
     match kind {
         1 => Kind::Message {
+            form: kind,
             time,
             serial: values[1],
+            urgency: 0,
             pairs: m,
         },
         2 => Kind::Tick { time },
@@ -280,7 +281,8 @@ fn framed(kind: u32, values: [u32; 5], m: usize) -> Kind
             time,
             serial: values[1],
         },
-        6 => Kind::Urgent {
+        6 | 7 => Kind::Message {
+            form: kind,
             time,
             serial: values[1],
             urgency: values[2],
@@ -347,8 +349,8 @@ pub struct Asked {
     pub number: u32,
     pub k: u32,
     pub n: usize,
-    pub terms: [u32; 16],
-    pub weights: [u32; 16],
+    pub terms: [u32; MOST_PAIRS],
+    pub weights: [u32; MOST_PAIRS],
 }
 
 fn not_asked(number: u32) -> Asked
@@ -358,8 +360,8 @@ fn not_asked(number: u32) -> Asked
         number,
         k: 0,
         n: 0,
-        terms: [0u32; 16],
-        weights: [0u32; 16],
+        terms: [0u32; MOST_PAIRS],
+        weights: [0u32; MOST_PAIRS],
     }
 }
 
@@ -449,7 +451,7 @@ fn values_of(
         3 => [time, number, less_one(k as usize), less_one(pairs), 0],
         4 => [time, number, 0, 0, 0],
         5 => [time, serial, 0, 0, 0],
-        6 => [time, serial, urgency, less_one(pairs), 0],
+        6 | 7 => [time, serial, urgency, less_one(pairs), 0],
         _ => [0, 0, 0, 0, 0],
     }
 }

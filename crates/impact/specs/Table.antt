@@ -9,7 +9,7 @@ unfoldable pub squaresFrom : ℕ → ℕ → List ℕ
 squaresFrom i zero = []
 squaresFrom i (suc k) = i * i ∷ squaresFrom (suc i) k
 
--- "a table of the squares of 0 to 1,000"
+-- "a table of the squares of 0 to" the top
 abbrev pub squareTable : List ℕ
 squareTable = squaresFrom 0 (suc top)
 

@@ -17,7 +17,7 @@ pub struct Impact {
 
 impl Impact {
     // The top of the scale, and the last place of the table of squares.
-    pub const TOP: u32 = 1000;
+    pub const TOP: u32 = 2000;
 
     // The impact of a count in a message whose counts squared sum to `squares`: the greatest place of the table whose entry, as w², meets the rule.
     // The impact of a count of 1, in fine parts, leaves one place or two, and of two the table decides. A look at the table copies it.

@@ -2,7 +2,7 @@
 -- All but the last two sections are for any head, any width of a count or weight, and any number of pairs.
 -- Assumes nothing.
 use mathlib.Core.Path.{_≡_, refl, sym, ap, ap₂, _∙_, subst}
-use Prim.Native.Nat.{ℕ, zero, suc, _+_, _-_, _*_, _≤_, _<_}
+use Prim.Native.Nat.{ℕ, zero, suc, _+_, _-_, _*_, _^_, _≤_, _<_}
 use native.Mathlib.Nat.{zero-add, add-sub-cancel, add-assoc, zero-mul, suc-mul}
 use native.Mathlib.Omega.{arith}
 use mathlib.Core.Bool.{Bool, true, false, cond, _&&_}
@@ -17,12 +17,12 @@ use Rattle.wire.specs.Field.{field, total, spell, scan, Fit}
 use Rattle.wire.proofs.BitLaws.{length-pack}
 use Rattle.wire.proofs.FieldLaws.{field-lt}
 use Rattle.wire.proofs.LayoutLaws.{scan-spell, pack-scan, total-append, scan-append, scan-parts, fit-append}
-use Rattle.paper.specs.Frame.{Pair, Urgency, Frame, Shape, Pairs, AllFit, Valid, level, urgencyOf, messageRow, tickRow, registerRow, unregisterRow, cancelRow, gradedRow, noRow, rowOf, widths, frameOf, termWidth, countWidth}
-use Rattle.paper.specs.Frame.{weightWidth, mostPairs, mostTerms, pairWidths, pairValues, bitsOf, bytesFor, fillAfter, written, encode, pairsAt, positive, rises, rising, gradesKnown, check, shapeOfKind, shape}
+use Rattle.paper.specs.Frame.{Pair, Urgency, Form, Frame, Shape, Pairs, AllFit, Valid, level, urgencyOf, messageRow, tickRow, registerRow, unregisterRow, cancelRow, gradedBy, gradedRow, longRow, noRow, rowOf, widths, frameOf, termWidth, countWidth}
+use Rattle.paper.specs.Frame.{weightWidth, pairsWidth, longPairsWidth, mostPairs, mostIn, mostTerms, pairWidths, pairValues, bitsOf, bytesFor, fillAfter, written, writtenBy, encode, pairsAt, positive, rises, rising, gradesKnown, check, shapeOfKind, shape}
 use Rattle.paper.proofs.Tests.{and-true}
 use Rattle.paper.specs.Frame.Frame.{message, tick, register, unregister, cancel}
 use Rattle.paper.specs.Frame.Urgency.{routine, important, vital}
-use Rattle.paper.specs.Frame.Form.{ungraded, graded}
+use Rattle.paper.specs.Frame.Form.{ungraded, graded, long}
 use Rattle.paper.specs.Frame.Shape.{refused, accepted}
 
 -- ---- pairs
@@ -159,9 +159,9 @@ module _ (s head : List ℕ) (w m : ℕ) where
 
   found-reads : length s ≡ bytesFor (bitsOf head w m) → field s (bitsOf head w m) (fillAfter (bitsOf head w m)) ≡ 0
       → Reads s head w (scan s 0 head) found
-  found-reads long fill =
+  found-reads size fill =
       let n : length found ≡ m = length-pairs s (total head) w m in
-      record { long = rw n long; fields = refl; pairs = rw n; fill = rw n fill }
+      record { long = rw n size; fields = refl; pairs = rw n; fill = rw n fill }
 
   check-sound : (known : Bool) (make : List Pair → Frame) → (positive found ≡ true → rising found ≡ true → Valid (make found))
       → (known ≡ true → encode (make found) ≡ written head w (scan s 0 head) found) → Sound s (check s head w m known (λ ps. accepted (make ps)))
@@ -169,11 +169,11 @@ module _ (s head : List ℕ) (w m : ℕ) where
   check-sound known make valid is =
       let b : ℕ = bitsOf head w m in
       or-refused (Sound s) (eqb (length s) (bytesFor b)) (inl (lit≤ tt, lit≤ tt))
-      (λ long. or-refused (Sound s) (eqb (field s b (fillAfter b)) 0) (inl (lit≤ tt, lit≤ tt))
+      (λ size. or-refused (Sound s) (eqb (field s b (fillAfter b)) 0) (inl (lit≤ tt, lit≤ tt))
       (λ fill. or-refused (Sound s) known (inr refl)
       (λ k. or-refused (Sound s) (positive found) (inl (lit≤ tt, lit≤ tt))
       (λ p. or-refused (Sound s) (rising found) (inl (lit≤ tt, lit≤ tt))
-      (λ o. (valid p o, λ h. reads-written head w (scan s 0 head) found s h (found-reads (eqb-true (length s) (bytesFor b) long) (eqb-true (field s b (fillAfter b)) 0 fill)) ∙ sym (is k)))))))
+      (λ o. (valid p o, λ h. reads-written head w (scan s 0 head) found s h (found-reads (eqb-true (length s) (bytesFor b) size) (eqb-true (field s b (fillAfter b)) 0 fill)) ∙ sym (is k)))))))
 
 -- the pairs that follow a field for their number less one
 module _ (s : List ℕ) (at w n : ℕ) where
@@ -192,23 +192,21 @@ module _ (s : List ℕ) (at w n : ℕ) where
 
 -- ---- the kinds
 
-pub no-row : (k : ℕ) → (k ≡ 1 → ⊥) → (k ≡ 2 → ⊥) → (k ≡ 3 → ⊥) → (k ≡ 4 → ⊥) → (k ≡ 5 → ⊥) → (k ≡ 6 → ⊥) → rowOf k ≡ noRow
+pub no-row : (k : ℕ) → (k ≡ 1 → ⊥) → (k ≡ 2 → ⊥) → (k ≡ 3 → ⊥) → (k ≡ 4 → ⊥) → (k ≡ 5 → ⊥) → (k ≡ 6 → ⊥) → (k ≡ 7 → ⊥) → rowOf k ≡ noRow
 unfolding rowOf
-no-row k a b c d e f = rw (ne-eqb k 1 a, ne-eqb k 2 b, ne-eqb k 3 c, ne-eqb k 4 d, ne-eqb k 5 e, ne-eqb k 6 f)
+no-row k a b c d e f g = rw (ne-eqb k 1 a, ne-eqb k 2 b, ne-eqb k 3 c, ne-eqb k 4 d, ne-eqb k 5 e, ne-eqb k 6 f, ne-eqb k 7 g)
 
 -- a claim about every kind, from the claims about those with a row and about the others
-pub by-kind : (P : ℕ → Type 0) → P 1 → P 2 → P 3 → P 4 → P 5 → P 6 → ((k : ℕ) → rowOf k ≡ noRow → P k) → (k : ℕ) → P k
-by-kind P a b c d e f g zero =
-    g zero (no-row zero (λ z. omega arith) (λ z. omega arith) (λ z. omega arith) (λ z. omega arith) (λ z. omega arith) (λ z. omega arith))
-by-kind P a b c d e f g (suc zero) = a
-by-kind P a b c d e f g (suc (suc zero)) = b
-by-kind P a b c d e f g (suc (suc (suc zero))) = c
-by-kind P a b c d e f g (suc (suc (suc (suc zero)))) = d
-by-kind P a b c d e f g (suc (suc (suc (suc (suc zero))))) = e
-by-kind P a b c d e f g (suc (suc (suc (suc (suc (suc zero)))))) = f
-by-kind P a b c d e f g (suc (suc (suc (suc (suc (suc (suc k))))))) =
-    g (suc (suc (suc (suc (suc (suc (suc k)))))))
-    (no-row _ (λ z. omega arith) (λ z. omega arith) (λ z. omega arith) (λ z. omega arith) (λ z. omega arith) (λ z. omega arith))
+pub by-kind : (P : ℕ → Type 0) → P 1 → P 2 → P 3 → P 4 → P 5 → P 6 → P 7 → ((k : ℕ) → rowOf k ≡ noRow → P k) → (k : ℕ) → P k
+by-kind P a b c d e f g h zero = h zero (no-row zero (λ z. omega arith) (λ z. omega arith) (λ z. omega arith) (λ z. omega arith) (λ z. omega arith) (λ z. omega arith) (λ z. omega arith))
+by-kind P a b c d e f g h (suc zero) = a
+by-kind P a b c d e f g h (suc (suc zero)) = b
+by-kind P a b c d e f g h (suc (suc (suc zero))) = c
+by-kind P a b c d e f g h (suc (suc (suc (suc zero)))) = d
+by-kind P a b c d e f g h (suc (suc (suc (suc (suc zero))))) = e
+by-kind P a b c d e f g h (suc (suc (suc (suc (suc (suc zero)))))) = f
+by-kind P a b c d e f g h (suc (suc (suc (suc (suc (suc (suc zero))))))) = g
+by-kind P a b c d e f g h (suc (suc (suc (suc (suc (suc (suc (suc k)))))))) = h (suc (suc (suc (suc (suc (suc (suc (suc k)))))))) (no-row _ (λ z. omega arith) (λ z. omega arith) (λ z. omega arith) (λ z. omega arith) (λ z. omega arith) (λ z. omega arith) (λ z. omega arith))
 
 -- ---- grades
 
@@ -235,12 +233,29 @@ pub unknown-shape : (s : List ℕ) (k : ℕ) → rowOf k ≡ noRow → shapeOfKi
 unfolding shapeOfKind
 unknown-shape s k e = rw e
 
+-- a form of messages with an urgency, written with the number of pairs in a field of w bits
+abbrev Written : ℕ → ℕ → (Urgency → Form) → Type 0
+Written k w form =
+    (t n : ℕ) (u : Urgency) (ps : List Pair) → encode (message t n (form u) ps) ≡ writtenBy (gradedBy w) (k ∷ t ∷ n ∷ level u ∷ (length ps - 1) ∷ []) ps
+
+graded-sound : (s : List ℕ) (k w : ℕ) (form : Urgency → Form) → ((u : Urgency) → mostIn (form u) ≡ 2 ^ w) → Written k w form → field s 0 4 ≡ k
+    → Sound s (check s (widths (gradedBy w)) countWidth (field s 58 w + 1) (leb (field s 56 2) 2 && true)
+    (λ ps. accepted (message (field s 4 32) (field s 36 20) (form (urgencyOf (field s 56 2))) ps)))
+unfolding scan total
+graded-sound s k w form most is e =
+    let at : ℕ = total (widths (gradedBy w)) in
+    let u : Urgency = urgencyOf (field s 56 2) in
+    check-sound s (widths (gradedBy w)) countWidth (field s 58 w + 1) (leb (field s 56 2) 2 && true)
+    (message (field s 4 32) (field s 36 20) (form u))
+    (λ p o. record { time = field-lt s 4 32; serial = field-lt s 36 20; pairs = pairs-valid s at countWidth (field s 58 w) (mostIn (form u)) (rw (most u) (field-lt s 58 w)) p o })
+    (λ known. rw (is _ _ _ _, e, less-one s at countWidth (field s 58 w), level-of (field s 56 2) (leb-true (field s 56 2) 2 (and-true (leb (field s 56 2) 2) true known .0))))
+
 kind-sound : (s : List ℕ) (k : ℕ) → field s 0 4 ≡ k → Sound s (shapeOfKind k s)
 unfolding shapeOfKind rowOf frameOf encode scan total pairsAt gradesKnown
 kind-sound s =
     by-kind (λ k. field s 0 4 ≡ k → Sound s (shapeOfKind k s))
     (λ e. check-sound s (widths messageRow) countWidth (field s 56 4 + 1) true (message (field s 4 32) (field s 36 20) ungraded)
-    (λ p o. record { time = field-lt s 4 32; serial = field-lt s 36 20; pairs = pairs-valid s 60 countWidth (field s 56 4) mostPairs (field-lt s 56 4) p o })
+    (λ p o. record { time = field-lt s 4 32; serial = field-lt s 36 20; pairs = pairs-valid s 60 countWidth (field s 56 4) (mostIn ungraded) (field-lt s 56 4) p o })
     (λ _. rw (e, less-one s 60 countWidth (field s 56 4))))
     (λ e. check-sound s (widths tickRow) 0 0 true (λ _. tick (field s 4 32)) (λ _ _. field-lt s 4 32) (λ _. rw e))
     (λ e. check-sound s (widths registerRow) weightWidth (field s 45 3 + 1) true (register (field s 4 32) (field s 36 5) (field s 41 4 + 1))
@@ -254,10 +269,8 @@ kind-sound s =
     (λ _. rw (e, less-one s 48 weightWidth (field s 45 3), add-sub-cancel (field s 41 4) 1)))
     (λ e. check-sound s (widths unregisterRow) 0 0 true (λ _. unregister (field s 4 32) (field s 36 5)) (λ _ _. (field-lt s 4 32, field-lt s 36 5)) (λ _. rw e))
     (λ e. check-sound s (widths cancelRow) 0 0 true (λ _. cancel (field s 4 32) (field s 36 20)) (λ _ _. (field-lt s 4 32, field-lt s 36 20)) (λ _. rw e))
-    (λ e. check-sound s (widths gradedRow) countWidth (field s 58 4 + 1) (leb (field s 56 2) 2 && true)
-    (message (field s 4 32) (field s 36 20) (graded (urgencyOf (field s 56 2))))
-    (λ p o. record { time = field-lt s 4 32; serial = field-lt s 36 20; pairs = pairs-valid s 62 countWidth (field s 58 4) mostPairs (field-lt s 58 4) p o })
-    (λ known. rw (e, less-one s 62 countWidth (field s 58 4), level-of (field s 56 2) (leb-true (field s 56 2) 2 (and-true (leb (field s 56 2) 2) true known .0)))))
+    (graded-sound s 6 pairsWidth graded (λ _. refl) (λ t n u ps. refl))
+    (graded-sound s 7 longPairsWidth long (λ _. refl) (λ t n u ps. refl))
     (λ k none e. rw (unknown-shape s k none) (inl (lit≤ tt, lit≤ tt)))
 
 shape-sound : (s : List ℕ) → Sound s (shape s)
@@ -296,10 +309,25 @@ accepts : (k : ℕ) (head : List ℕ) (w : ℕ) (values : List ℕ) (ps : List P
     → ((s : List ℕ) → scan s 0 (4 ∷ head) ≡ k ∷ values → shapeOfKind k s ≡ check s (4 ∷ head) w (length ps) true (λ qs. accepted (make qs)))
     → shape (written (4 ∷ head) w (k ∷ values) ps) ≡ accepted (make ps)
 unfolding shape total scan
-accepts k head w values ps make long fit all-fit p o is =
+accepts k head w values ps make five fit all-fit p o is =
     let s : List ℕ = written (4 ∷ head) w (k ∷ values) ps in
     let r : Reads s (4 ∷ head) w (k ∷ values) ps = written-reads (4 ∷ head) w (k ∷ values) ps fit all-fit in
     rw (le-ltb (length s) 5 (omega arith), at 0 (r .fields), is s (r .fields)) (check-reads s (4 ∷ head) w (k ∷ values) ps make r p o)
+
+graded-encode : (k w : ℕ) (form : Urgency → Form) → k < 16
+    → ((s : List ℕ) → shapeOfKind k s ≡ check s (widths (gradedBy w)) countWidth (field s 58 w + 1) (leb (field s 56 2) 2 && true)
+    (λ ps. accepted (message (field s 4 32) (field s 36 20) (form (urgencyOf (field s 56 2))) ps)))
+    → (t n : ℕ) (u : Urgency) (ps : List Pair) → t < 2 ^ 32 → n < 2 ^ 20 → Pairs countWidth (2 ^ w) ps
+    → shape (writtenBy (gradedBy w) (k ∷ t ∷ n ∷ level u ∷ (length ps - 1) ∷ []) ps) ≡ accepted (message t n (form u) ps)
+unfolding scan total
+graded-encode k w form small is t n u ps ht hn p =
+    let few : level u ≤ 2 = level-most u in
+    let l = p .least-one in
+    let m = p .at-most in
+    accepts k _ countWidth _ ps (message t n (form u)) (omega arith) (small, (ht, (hn, (omega arith, (omega arith, tt)))))
+    (p .fit) (p .above-zero) (p .in-order)
+    (λ s e. is s ∙ λ i. check s (widths (gradedBy w)) countWidth (more (at 4 e) (p .least-one) i) (grade-read u (at 3 e) i)
+    (λ qs. accepted (message (at 1 e i) (at 2 e i) (form (urgency-read u (at 3 e) i)) qs)))
 
 pub shape-encode : (f : Frame) → Valid f → shape (encode f) ≡ accepted f
 unfolding encode scan total shapeOfKind rowOf frameOf positive rises gradesKnown
@@ -308,12 +336,9 @@ shape-encode (message t n ungraded ps) v =
     accepts 1 _ countWidth _ ps (message t n ungraded) (lit≤ tt) (lit< tt, (v .time, (v .serial, (omega arith, tt)))) (p .fit) (p .above-zero) (p .in-order)
     (λ s e i. check s (widths messageRow) countWidth (more (at 3 e) (p .least-one) i) true (λ qs. accepted (message (at 1 e i) (at 2 e i) ungraded qs)))
 shape-encode (message t n (graded u) ps) v =
-    let p = v .pairs in
-    let few : level u ≤ 2 = level-most u in
-    accepts 6 _ countWidth _ ps (message t n (graded u)) (lit≤ tt) (lit< tt, (v .time, (v .serial, (omega arith, (omega arith, tt)))))
-    (p .fit) (p .above-zero) (p .in-order)
-    (λ s e i. check s (widths gradedRow) countWidth (more (at 4 e) (p .least-one) i) (grade-read u (at 3 e) i)
-    (λ qs. accepted (message (at 1 e i) (at 2 e i) (graded (urgency-read u (at 3 e) i)) qs)))
+    graded-encode 6 pairsWidth graded (lit< tt) (λ s. refl) t n u ps (v .time) (v .serial) (v .pairs)
+shape-encode (message t n (long u) ps) v =
+    graded-encode 7 longPairsWidth long (lit< tt) (λ s. refl) t n u ps (v .time) (v .serial) (v .pairs)
 shape-encode (tick t) v =
     accepts 2 _ 0 _ [] (λ _. tick t) (lit≤ tt) (lit< tt, (v, tt)) tt refl refl
     (λ s e i. check s (widths tickRow) 0 0 true (λ _. accepted (tick (at 1 e i))))
@@ -330,13 +355,21 @@ shape-encode (cancel t n) v =
     accepts 5 _ 0 _ [] (λ _. cancel t n) (lit≤ tt) (lit< tt, (v .0, (v .1, tt))) tt refl refl
     (λ s e i. check s (widths cancelRow) 0 0 true (λ _. accepted (cancel (at 1 e i) (at 2 e i))))
 
--- no frame is longer than a graded message of as many pairs as one can have
-pub encode-most : (f : Frame) → Valid f → length (encode f) ≤ bytesFor (bitsOf (widths gradedRow) countWidth mostPairs)
+-- no form has room for more pairs than a message can have
+pub form-most : (g : Form) → mostIn g ≤ mostPairs
+form-most ungraded = lit≤ tt
+form-most (graded u) = lit≤ tt
+form-most (long u) = lit≤ tt
+
+-- no frame is longer than a long message of as many pairs as one can have
+pub encode-most : (f : Frame) → Valid f → length (encode f) ≤ bytesFor (bitsOf (widths longRow) countWidth mostPairs)
 unfolding encode total
 encode-most (message t s ungraded ps) v =
     let m = v .pairs .at-most in omega (arith, encode-length (widths messageRow) countWidth (1 ∷ t ∷ s ∷ (length ps - 1) ∷ []) ps)
 encode-most (message t s (graded u) ps) v =
     let m = v .pairs .at-most in omega (arith, encode-length (widths gradedRow) countWidth (6 ∷ t ∷ s ∷ level u ∷ (length ps - 1) ∷ []) ps)
+encode-most (message t s (long u) ps) v =
+    let m = v .pairs .at-most in omega (arith, encode-length (widths longRow) countWidth (7 ∷ t ∷ s ∷ level u ∷ (length ps - 1) ∷ []) ps)
 encode-most (tick t) v = omega (arith, encode-length (widths tickRow) 0 (2 ∷ t ∷ []) [])
 encode-most (register t n k ps) v =
     let m = v .terms .at-most in omega (arith, encode-length (widths registerRow) weightWidth (3 ∷ t ∷ n ∷ (k - 1) ∷ (length ps - 1) ∷ []) ps)

@@ -1,6 +1,6 @@
 -- Every log that is fed from a start is sound, and how a frame changes what is in force. Assumes nothing.
 use Prim.Native.Nat.{ℕ, zero, suc, _≤_, _<_, _^_}
-use native.Mathlib.Nat.{le-refl}
+use native.Mathlib.Nat.{le-trans, le-refl}
 use native.Mathlib.Omega.{arith}
 use mathlib.Core.Path.{_≡_, refl, sym, ap, _∙_, subst}
 use mathlib.Core.Bool.{Bool, true, false}
@@ -21,7 +21,7 @@ use Rattle.paper.specs.Rank.{Query}
 use Rattle.paper.specs.Log.{Log, Call, fresh, inForceNow, inForceAt, filledNow, filledAt, hasSerial, timeOf, judgeKind, judgeFrame, judgeShape, lent, judge}
 use Rattle.paper.specs.Log.{arrivals, cancels, queriesAfter, accept, acceptShape, after, replay, departs, stays, seen, movedFor}
 use Rattle.paper.specs.Sound.{From, Chronological, Distinct, Messages, Terms, Queries, Sound}
-use Rattle.paper.proofs.FrameLaws.{shape-valid}
+use Rattle.paper.proofs.FrameLaws.{shape-valid, form-most}
 use Rattle.paper.proofs.WindowLaws.{active, filling-true, staying, staying-none, filled-append, vacating, vacating-staying, departing-remaining, remaining-staying, departing-vacating}
 use Rattle.paper.proofs.WindowLaws.{in-force-filled, in-force-noting, named, unnamed, withdrawing, filled-noting, remaining-unnamed, departing-named}
 
@@ -298,7 +298,10 @@ arrivals-from (unregister t n) c h = (tt, tt)
 arrivals-from (cancel t s) c h = (tt, tt)
 
 pub arrivals-valid : (f : Frame) → Valid f → Messages (arrivals f)
-arrivals-valid (message t s g ps) v = (v .serial, v .pairs, tt)
+arrivals-valid (message t s g ps) v =
+    let p = v .pairs in
+    let few = le-trans (p .at-most) (form-most g) in
+    (v .serial, record { least-one = p .least-one; at-most = few; fit = p .fit; above-zero = p .above-zero; in-order = p .in-order }, tt)
 arrivals-valid (tick t) v = tt
 arrivals-valid (register t n k ps) v = tt
 arrivals-valid (unregister t n) v = tt

@@ -10,12 +10,12 @@ use mathlib.Core.List.{List, [], _∷_, map}
 use lib.ListN.{length, length-map}
 use lib.Dec.{leb, ltb, lit≤}
 use borrow.Author.Tests.{ltb-true, leb-true, lt-ltb, le-leb}
-use Rattle.paper.specs.Frame.{Pair, Frame, Fields, Row, Pairs, AllFit, Valid, level, urgencyOf, noRow, rowOf, messageRow, tickRow, registerRow, unregisterRow}
-use Rattle.paper.specs.Frame.{cancelRow, gradedRow, frameOf, gradesKnown, judged, writtenBy, countWidth, weightWidth, mostPairs, mostTerms, encode, shape, positive, rises, rising}
+use Rattle.paper.specs.Frame.{Pair, Urgency, Form, Frame, Fields, Row, Pairs, AllFit, Valid, level, urgencyOf, noRow, rowOf, messageRow, tickRow, registerRow, unregisterRow}
+use Rattle.paper.specs.Frame.{cancelRow, gradedBy, gradedRow, longRow, frameOf, gradesKnown, judged, writtenBy, pairsWidth, longPairsWidth, countWidth, weightWidth, mostPairs, mostIn, mostTerms, encode, shape, positive, rises, rising}
 use Rattle.paper.specs.Frame.Frame.{message, tick, register, unregister, cancel}
-use Rattle.paper.specs.Frame.Form.{ungraded, graded}
+use Rattle.paper.specs.Frame.Form.{ungraded, graded, long}
 use Rattle.paper.specs.Frame.Shape.{refused, accepted}
-use Rattle.paper.specs.Write.{side-by-side, allWithin, headWithin, valueOf, pairsTaken, pairsWithin, pairsOf, pairsIn, fromKind, fromFields, fieldsWith, fieldsOf}
+use Rattle.paper.specs.Write.{side-by-side, allWithin, headWithin, valueOf, pairsTaken, pairsWithin, pairsOf, pairsIn, fromKind, fromFields, fieldsFor, fieldsWith, fieldsOf}
 use Rattle.paper.proofs.FrameLaws.{or-refused, Judged, by-kind, level-of, level-most, of-level, shape-encode}
 
 -- ---- tests
@@ -80,6 +80,22 @@ pub unknown-kind : (x : Fields) (k : ℕ) → rowOf k ≡ noRow → fromKind k x
 unfolding fromKind
 unknown-kind x k e = rw e
 
+-- a message with an urgency, its number of pairs in a field of w bits
+graded-sound : (x : Fields) (w : ℕ) (form : Urgency → Form) → ((u : Urgency) → mostIn (form u) ≡ 2 ^ w) → let row = gradedBy w in
+    let ps = pairsOf row x in
+    Judged 2 Valid (judged (gradesKnown (row .head) (map (valueOf x) (row .head))) (headWithin (row .head) x && pairsWithin row x) ps
+    (accepted (message (x .time) (x .serial) (form (urgencyOf (x .urgency))) ps)))
+unfolding headWithin
+graded-sound x w form most =
+    let row = gradedBy w in
+    let u = urgencyOf (x .urgency) in
+    judged-sound (gradesKnown (row .head) (map (valueOf x) (row .head))) (headWithin (row .head) x && pairsWithin row x) (pairsOf row x)
+    (message (x .time) (x .serial) (form u) (pairsOf row x)) (λ e o. record {
+      time = search facts;
+      serial = search facts;
+      pairs = rw (most u) (pairs-within countWidth (2 ^ w) (x .pairs) (x .terms) (x .amounts) (search facts) (search facts) (search facts) (search facts) (search facts) o);
+    })
+
 kind-sound : (x : Fields) (k : ℕ) → Judged 2 Valid (fromKind k x)
 unfolding fromKind rowOf frameOf headWithin gradesKnown
 kind-sound x =
@@ -91,7 +107,7 @@ kind-sound x =
     (message (x .time) (x .serial) ungraded (side-by-side m ts us)) (λ e o. record {
       time = search facts;
       serial = search facts;
-      pairs = pairs-within countWidth mostPairs m ts us (search facts) (search facts) (search facts) (search facts) (search facts) o;
+      pairs = pairs-within countWidth (mostIn ungraded) m ts us (search facts) (search facts) (search facts) (search facts) (search facts) o;
     }))
     (judged-sound true (headWithin (tickRow .head) x && pairsWithin tickRow x) (side-by-side 0 ts us) (tick (x .time)) (λ e _. search facts))
     (judged-sound true (headWithin (registerRow .head) x && pairsWithin registerRow x) (side-by-side m ts us) (register (x .time) (x .number) (x .k - 1 + 1) (side-by-side m ts us)) (λ e o.
@@ -106,12 +122,8 @@ kind-sound x =
     }))
     (judged-sound true (headWithin (unregisterRow .head) x && pairsWithin unregisterRow x) (side-by-side 0 ts us) (unregister (x .time) (x .number)) (λ e _. (search facts, search facts)))
     (judged-sound true (headWithin (cancelRow .head) x && pairsWithin cancelRow x) (side-by-side 0 ts us) (cancel (x .time) (x .serial)) (λ e _. (search facts, search facts)))
-    (judged-sound (gradesKnown (gradedRow .head) (map (valueOf x) (gradedRow .head))) (headWithin (gradedRow .head) x && pairsWithin gradedRow x) (side-by-side m ts us)
-    (message (x .time) (x .serial) (graded (urgencyOf (x .urgency))) (side-by-side m ts us)) (λ e o. record {
-      time = search facts;
-      serial = search facts;
-      pairs = pairs-within countWidth mostPairs m ts us (search facts) (search facts) (search facts) (search facts) (search facts) o;
-    }))
+    (graded-sound x pairsWidth graded (λ _. refl))
+    (graded-sound x longPairsWidth long (λ _. refl))
     (λ k none. rw (unknown-kind x k none) (inl (lit≤ tt, lit≤ tt)))
 
 fields-sound : (x : Fields) → Judged 2 Valid (fromFields x)
@@ -151,6 +163,11 @@ made x =
       is = refl;
       spelled = rw (n, level-of (x .urgency) (search facts));
     })
+    (λ _ e n. record {
+      frame = message (x .time) (x .serial) (long (urgencyOf (x .urgency))) (pairsOf longRow x);
+      is = refl;
+      spelled = rw (n, level-of (x .urgency) (search facts));
+    })
     (λ k none h _ _. let z : 0 < length (noRow .head) = subst (λ (row : Row). 0 < length (row .head)) none h in absurd (omega arith))
 
 -- fields in range take no more pairs than a message can have
@@ -158,11 +175,12 @@ pub taken-most : (x : Fields) (k : ℕ) → headWithin (rowOf k .head) x ≡ tru
 unfolding rowOf headWithin
 taken-most x =
     by-kind (λ k. headWithin (rowOf k .head) x ≡ true → pairsTaken (rowOf k) x ≤ mostPairs)
-    (λ e. search facts)
+    (λ e. let h : x .pairs ≤ 2 ^ pairsWidth = search facts in omega arith)
     (λ _. lit≤ tt)
     (λ e. let h : x .pairs ≤ 2 ^ 3 = search facts in omega arith)
     (λ _. lit≤ tt)
     (λ _. lit≤ tt)
+    (λ e. let h : x .pairs ≤ 2 ^ pairsWidth = search facts in omega arith)
     (λ e. search facts)
     (λ k none _. subst (λ (row : Row). pairsTaken row x ≤ mostPairs) (sym none) (lit≤ tt))
 
@@ -190,6 +208,30 @@ given {w} {ts = ts} {us} {ps} p b =
       fit-within w ps (p .fit) (p .above-zero),
     )
 
+-- a message with an urgency, its number of pairs in a field of w bits
+graded-with : (k w : ℕ) (form : Urgency → Form) (t s : ℕ) (u : Urgency) (ps : List Pair) (ts us : List ℕ) → let row = gradedBy w in
+    let x = fieldsFor k t s (level u) 0 0 (length ps) ts us in
+    fromKind k x ≡ judged (gradesKnown (row .head) (map (valueOf x) (row .head))) (headWithin (row .head) x && pairsWithin row x) (pairsOf row x)
+    (accepted (message t s (form (urgencyOf (level u))) (pairsOf row x)))
+    → t < 2 ^ 32 → s < 2 ^ 20 → Pairs countWidth (2 ^ w) ps → Beside ts us ps → fromKind k x ≡ accepted (message t s (form u) ps)
+unfolding headWithin gradesKnown
+graded-with k w form t s u ps ts us is ht hs p b =
+    let m : ℕ = length ps in
+    let few : level u ≤ 2 = level-most u in
+    rw (
+      is,
+      le-leb (level u) 2 few,
+      lt-ltb t (2 ^ 32) ht,
+      lt-ltb s (2 ^ 20) hs,
+      lt-ltb (level u) (2 ^ 2) (omega arith),
+      lt-ltb 0 m (p .least-one),
+      le-leb m (2 ^ w) (p .at-most),
+      given p b,
+      b .are,
+      p .in-order,
+      of-level u,
+    )
+
 -- a valid frame comes from its fields, whatever stands in the lists past its pairs
 pub fields-with : (f : Frame) (ts us : List ℕ) → Valid f → Beside ts us (pairsIn f) → fromFields (fieldsWith f ts us) ≡ accepted f
 unfolding fromKind rowOf frameOf headWithin rises allWithin side-by-side gradesKnown
@@ -200,27 +242,13 @@ fields-with (message t s ungraded ps) ts us v b =
       lt-ltb t (2 ^ 32) (v .time),
       lt-ltb s (2 ^ 20) (v .serial),
       lt-ltb 0 m (p .least-one),
-      le-leb m mostPairs (p .at-most),
+      le-leb m (mostIn ungraded) (p .at-most),
       given p b,
       b .are,
       p .in-order,
     )
-fields-with (message t s (graded u) ps) ts us v b =
-    let p = v .pairs in
-    let m : ℕ = length ps in
-    let few : level u ≤ 2 = level-most u in
-    rw (
-      le-leb (level u) 2 few,
-      lt-ltb t (2 ^ 32) (v .time),
-      lt-ltb s (2 ^ 20) (v .serial),
-      lt-ltb (level u) (2 ^ 2) (omega arith),
-      lt-ltb 0 m (p .least-one),
-      le-leb m mostPairs (p .at-most),
-      given p b,
-      b .are,
-      p .in-order,
-      of-level u,
-    )
+fields-with (message t s (graded u) ps) ts us v b = graded-with 6 pairsWidth graded t s u ps ts us refl (v .time) (v .serial) (v .pairs) b
+fields-with (message t s (long u) ps) ts us v b = graded-with 7 longPairsWidth long t s u ps ts us refl (v .time) (v .serial) (v .pairs) b
 fields-with (tick t) ts us v b = rw (lt-ltb t (2 ^ 32) v, le-leb 0 (length ts) (b .terms), le-leb 0 (length us) (b .amounts))
 fields-with (register t n k ps) ts us v b =
     let p = v .terms in

@@ -1,13 +1,13 @@
 -- The starred cases of document 01, "Worked passages", under document 02's age rule (T-01); C8, which moves with that rule; cancellations (T-02);
--- urgencies (T-04); searches (T-05); and rows for the order of the refusals 1 to 6 and 14: as one table. proofs/CasesHold.antt has its one theorem.
+-- urgencies (T-04); searches (T-05); longer messages (T-06); and rows for the order of the refusals 1 to 6 and 14: as one table. proofs/CasesHold.antt has its one theorem.
 -- Assumes nothing.
 use Prim.Native.Nat.{ℕ, suc}
 use mathlib.Core.List.{List, [], _∷_, _++_, map}
-use lib.ListN.{take}
+use lib.ListN.{take, replicate}
 use Rattle.paper.specs.Frame.{Pair, Frame, encode, shape}
 use Rattle.paper.specs.Frame.Frame.{message, tick, register, unregister, cancel}
 use Rattle.paper.specs.Frame.Urgency.{routine, important, vital}
-use Rattle.paper.specs.Frame.Form.{ungraded, graded}
+use Rattle.paper.specs.Frame.Form.{ungraded, graded, long}
 use Rattle.paper.specs.Impact.{impactIn}
 use Rattle.paper.specs.Rank.{Line, lines}
 use Rattle.paper.specs.Layout.{stateLength}
@@ -167,6 +167,19 @@ tieLeftOut =
     ∷ cancel 60 3
     ∷ [])
 
+-- The three kinds of message in one window. The long one of 32 pairs comes into the list as the vital one is cancelled.
+abbrev pub longer : List (List ℕ)
+longer =
+    map encode
+    (register 0 0 2 (at 5 1 ∷ [])
+    ∷ message 10 1 (long vital) (at 5 1 ∷ [])
+    ∷ message 20 2 ungraded (at 5 1 ∷ [])
+    ∷ message 30 3 (long routine) (numbered 0 (replicate 32 255))
+    ∷ message 30 3 (long routine) (at 5 1 ∷ [])
+    ∷ cancel 40 1
+    ∷ cancel 40 2
+    ∷ [])
+
 -- a search for these terms
 abbrev pub ask : ℕ → List Pair → List ℕ
 ask k ps = encode (register 0 0 k ps)
@@ -189,15 +202,15 @@ twiceOne = map encode (message 10 1 ungraded (at 5 1 ∷ at 9 1 ∷ []) ∷ mess
 unfoldable pub table : List Case
 table =
     -- C1
-    impacts (3 ∷ 4 ∷ []) (600 ∷ 800 ∷ [])
+    impacts (3 ∷ 4 ∷ []) (1200 ∷ 1600 ∷ [])
     -- C2
-    ∷ impacts (1 ∷ 1 ∷ []) (707 ∷ 707 ∷ [])
-    ∷ impacts (1 ∷ 2 ∷ []) (447 ∷ 894 ∷ [])
-    ∷ impacts (255 ∷ []) (1000 ∷ [])
+    ∷ impacts (1 ∷ 1 ∷ []) (1414 ∷ 1414 ∷ [])
+    ∷ impacts (1 ∷ 2 ∷ []) (894 ∷ 1788 ∷ [])
+    ∷ impacts (255 ∷ []) (2000 ∷ [])
     -- C3
     ∷ impacts
     (1 ∷ 255 ∷ 255 ∷ 255 ∷ 255 ∷ 255 ∷ 255 ∷ 255 ∷ 255 ∷ 255 ∷ 255 ∷ 255 ∷ 255 ∷ 255 ∷ 255 ∷ 255 ∷ [])
-    (1 ∷ 258 ∷ 258 ∷ 258 ∷ 258 ∷ 258 ∷ 258 ∷ 258 ∷ 258 ∷ 258 ∷ 258 ∷ 258 ∷ 258 ∷ 258 ∷ 258 ∷ 258 ∷ [])
+    (2 ∷ 516 ∷ 516 ∷ 516 ∷ 516 ∷ 516 ∷ 516 ∷ 516 ∷ 516 ∷ 516 ∷ 516 ∷ 516 ∷ 516 ∷ 516 ∷ 516 ∷ 516 ∷ [])
     -- C4
     ∷ spelling (tick 120) (0x20 ∷ 0x00 ∷ 0x00 ∷ 0x07 ∷ 0x80 ∷ [])
     ∷ judging (0x20 ∷ 0x00 ∷ 0x00 ∷ 0x07 ∷ 0x81 ∷ []) 4
@@ -213,23 +226,23 @@ table =
     -- C8: in force at 120, its serial taken; gone at 121, its serial free
     ∷ passage 3 100 c8
     ((0 ∷ 0 ∷ [])
-    ∷ (0 ∷ 0 ∷ 2 ∷ 1000 ∷ [])
-    ∷ (0 ∷ 0 ∷ 2 ∷ 1000 ∷ [])
-    ∷ (8 ∷ 0 ∷ 2 ∷ 1000 ∷ [])
+    ∷ (0 ∷ 0 ∷ 2 ∷ 2000 ∷ [])
+    ∷ (0 ∷ 0 ∷ 2 ∷ 2000 ∷ [])
+    ∷ (8 ∷ 0 ∷ 2 ∷ 2000 ∷ [])
     ∷ (0 ∷ 1 ∷ [])
-    ∷ (0 ∷ 0 ∷ 2 ∷ 1000 ∷ [])
+    ∷ (0 ∷ 0 ∷ 2 ∷ 2000 ∷ [])
     ∷ [])
     -- C9
-    ∷ passage 3 100 c9 ((0 ∷ 0 ∷ []) ∷ (0 ∷ 0 ∷ 1 ∷ 1000 ∷ []) ∷ (0 ∷ 0 ∷ 2 ∷ 1000 ∷ 1 ∷ 1000 ∷ []) ∷ [])
+    ∷ passage 3 100 c9 ((0 ∷ 0 ∷ []) ∷ (0 ∷ 0 ∷ 1 ∷ 2000 ∷ []) ∷ (0 ∷ 0 ∷ 2 ∷ 2000 ∷ 1 ∷ 2000 ∷ []) ∷ [])
     -- C10
     ∷ passage 3 100 c10
     ((0 ∷ 0 ∷ [])
-    ∷ (0 ∷ 0 ∷ 1 ∷ 2200 ∷ [])
-    ∷ (0 ∷ 0 ∷ 1 ∷ 2200 ∷ 2 ∷ 1000 ∷ [])
-    ∷ (0 ∷ 0 ∷ 1 ∷ 2200 ∷ 3 ∷ 1414 ∷ [])
-    ∷ (0 ∷ 1 ∷ 3 ∷ 1414 ∷ 2 ∷ 1000 ∷ [])
-    ∷ (0 ∷ 0 ∷ 3 ∷ 1414 ∷ 2 ∷ 1000 ∷ [])
-    ∷ (7 ∷ 0 ∷ 3 ∷ 1414 ∷ 2 ∷ 1000 ∷ [])
+    ∷ (0 ∷ 0 ∷ 1 ∷ 4400 ∷ [])
+    ∷ (0 ∷ 0 ∷ 1 ∷ 4400 ∷ 2 ∷ 2000 ∷ [])
+    ∷ (0 ∷ 0 ∷ 1 ∷ 4400 ∷ 3 ∷ 2828 ∷ [])
+    ∷ (0 ∷ 1 ∷ 3 ∷ 2828 ∷ 2 ∷ 2000 ∷ [])
+    ∷ (0 ∷ 0 ∷ 3 ∷ 2828 ∷ 2 ∷ 2000 ∷ [])
+    ∷ (7 ∷ 0 ∷ 3 ∷ 2828 ∷ 2 ∷ 2000 ∷ [])
     ∷ [])
     -- T-02
     ∷ spelling (cancel 40 1) (0x50 ∷ 0x00 ∷ 0x00 ∷ 0x02 ∷ 0x80 ∷ 0x00 ∷ 0x01 ∷ [])
@@ -237,31 +250,31 @@ table =
     ∷ judging (0xf0 ∷ 0x00 ∷ 0x00 ∷ 0x02 ∷ 0x80 ∷ 0x00 ∷ 0x01 ∷ []) 2
     ∷ passage 3 100 cancelled
     ((0 ∷ 0 ∷ [])
-    ∷ (0 ∷ 0 ∷ 1 ∷ 2200 ∷ [])
-    ∷ (0 ∷ 0 ∷ 1 ∷ 2200 ∷ 2 ∷ 1000 ∷ [])
-    ∷ (0 ∷ 0 ∷ 1 ∷ 2200 ∷ 3 ∷ 1414 ∷ [])
-    ∷ (0 ∷ 1 ∷ 3 ∷ 1414 ∷ 2 ∷ 1000 ∷ [])
-    ∷ (13 ∷ 0 ∷ 3 ∷ 1414 ∷ 2 ∷ 1000 ∷ [])
-    ∷ (0 ∷ 0 ∷ 3 ∷ 1414 ∷ 1 ∷ 1000 ∷ [])
-    ∷ (0 ∷ 1 ∷ 4 ∷ 2000 ∷ 3 ∷ 1414 ∷ [])
-    ∷ (7 ∷ 0 ∷ 4 ∷ 2000 ∷ 3 ∷ 1414 ∷ [])
-    ∷ (13 ∷ 0 ∷ 4 ∷ 2000 ∷ 3 ∷ 1414 ∷ [])
-    ∷ (0 ∷ 2 ∷ 4 ∷ 2000 ∷ [])
+    ∷ (0 ∷ 0 ∷ 1 ∷ 4400 ∷ [])
+    ∷ (0 ∷ 0 ∷ 1 ∷ 4400 ∷ 2 ∷ 2000 ∷ [])
+    ∷ (0 ∷ 0 ∷ 1 ∷ 4400 ∷ 3 ∷ 2828 ∷ [])
+    ∷ (0 ∷ 1 ∷ 3 ∷ 2828 ∷ 2 ∷ 2000 ∷ [])
+    ∷ (13 ∷ 0 ∷ 3 ∷ 2828 ∷ 2 ∷ 2000 ∷ [])
+    ∷ (0 ∷ 0 ∷ 3 ∷ 2828 ∷ 1 ∷ 2000 ∷ [])
+    ∷ (0 ∷ 1 ∷ 4 ∷ 4000 ∷ 3 ∷ 2828 ∷ [])
+    ∷ (7 ∷ 0 ∷ 4 ∷ 4000 ∷ 3 ∷ 2828 ∷ [])
+    ∷ (13 ∷ 0 ∷ 4 ∷ 4000 ∷ 3 ∷ 2828 ∷ [])
+    ∷ (0 ∷ 2 ∷ 4 ∷ 4000 ∷ [])
     ∷ [])
     ∷ passage 3 100 cancelledUnlisted
     ((0 ∷ 0 ∷ [])
-    ∷ (0 ∷ 0 ∷ 1 ∷ 2200 ∷ [])
-    ∷ (0 ∷ 0 ∷ 1 ∷ 2200 ∷ 2 ∷ 1000 ∷ [])
-    ∷ (0 ∷ 0 ∷ 1 ∷ 2200 ∷ 3 ∷ 1414 ∷ [])
-    ∷ (0 ∷ 1 ∷ 1 ∷ 2200 ∷ 3 ∷ 1414 ∷ [])
-    ∷ (0 ∷ 1 ∷ 3 ∷ 1414 ∷ 2 ∷ 1000 ∷ [])
-    ∷ (0 ∷ 1 ∷ 2 ∷ 1000 ∷ [])
-    ∷ (13 ∷ 0 ∷ 2 ∷ 1000 ∷ [])
-    ∷ (0 ∷ 0 ∷ 4 ∷ 2000 ∷ 2 ∷ 1000 ∷ [])
-    ∷ (7 ∷ 0 ∷ 4 ∷ 2000 ∷ 2 ∷ 1000 ∷ [])
-    ∷ (0 ∷ 0 ∷ 4 ∷ 2000 ∷ 2 ∷ 1000 ∷ [])
-    ∷ (13 ∷ 0 ∷ 4 ∷ 2000 ∷ 2 ∷ 1000 ∷ [])
-    ∷ (0 ∷ 1 ∷ 4 ∷ 2000 ∷ [])
+    ∷ (0 ∷ 0 ∷ 1 ∷ 4400 ∷ [])
+    ∷ (0 ∷ 0 ∷ 1 ∷ 4400 ∷ 2 ∷ 2000 ∷ [])
+    ∷ (0 ∷ 0 ∷ 1 ∷ 4400 ∷ 3 ∷ 2828 ∷ [])
+    ∷ (0 ∷ 1 ∷ 1 ∷ 4400 ∷ 3 ∷ 2828 ∷ [])
+    ∷ (0 ∷ 1 ∷ 3 ∷ 2828 ∷ 2 ∷ 2000 ∷ [])
+    ∷ (0 ∷ 1 ∷ 2 ∷ 2000 ∷ [])
+    ∷ (13 ∷ 0 ∷ 2 ∷ 2000 ∷ [])
+    ∷ (0 ∷ 0 ∷ 4 ∷ 4000 ∷ 2 ∷ 2000 ∷ [])
+    ∷ (7 ∷ 0 ∷ 4 ∷ 4000 ∷ 2 ∷ 2000 ∷ [])
+    ∷ (0 ∷ 0 ∷ 4 ∷ 4000 ∷ 2 ∷ 2000 ∷ [])
+    ∷ (13 ∷ 0 ∷ 4 ∷ 4000 ∷ 2 ∷ 2000 ∷ [])
+    ∷ (0 ∷ 1 ∷ 4 ∷ 4000 ∷ [])
     ∷ [])
     -- T-04: 14 after 4 and before 5
     ∷ spelling (message 10 1 (graded vital) (at 5 1 ∷ [])) (0x60 ∷ 0x00 ∷ 0x00 ∷ 0x00 ∷ 0xa0 ∷ 0x00 ∷ 0x01 ∷ 0x80 ∷ 0x05 ∷ 0x01 ∷ [])
@@ -272,37 +285,61 @@ table =
     ∷ judging (0x60 ∷ 0x00 ∷ 0x00 ∷ 0x00 ∷ 0xa0 ∷ 0x00 ∷ 0x01 ∷ 0x84 ∷ 0x05 ∷ 0x01 ∷ 0x01 ∷ 0x40 ∷ 0x40 ∷ []) 6
     ∷ passage 3 100 urgencies
     ((0 ∷ 0 ∷ [])
-    ∷ (0 ∷ 0 ∷ 1 ∷ 1000 ∷ [])
-    ∷ (0 ∷ 0 ∷ 1 ∷ 1000 ∷ 2 ∷ 1000 ∷ [])
-    ∷ (0 ∷ 0 ∷ 1 ∷ 1000 ∷ 3 ∷ 1000 ∷ [])
-    ∷ (0 ∷ 1 ∷ 3 ∷ 1000 ∷ 4 ∷ 1000 ∷ [])
-    ∷ (14 ∷ 0 ∷ 3 ∷ 1000 ∷ 4 ∷ 1000 ∷ [])
+    ∷ (0 ∷ 0 ∷ 1 ∷ 2000 ∷ [])
+    ∷ (0 ∷ 0 ∷ 1 ∷ 2000 ∷ 2 ∷ 2000 ∷ [])
+    ∷ (0 ∷ 0 ∷ 1 ∷ 2000 ∷ 3 ∷ 2000 ∷ [])
+    ∷ (0 ∷ 1 ∷ 3 ∷ 2000 ∷ 4 ∷ 2000 ∷ [])
+    ∷ (14 ∷ 0 ∷ 3 ∷ 2000 ∷ 4 ∷ 2000 ∷ [])
     ∷ [])
     ∷ passage 3 100 tieLeftOut
     ((0 ∷ 0 ∷ [])
-    ∷ (0 ∷ 0 ∷ 1 ∷ 1000 ∷ [])
-    ∷ (0 ∷ 0 ∷ 1 ∷ 1000 ∷ 2 ∷ 1000 ∷ [])
-    ∷ (0 ∷ 0 ∷ 1 ∷ 1000 ∷ 3 ∷ 1000 ∷ [])
-    ∷ (0 ∷ 1 ∷ 3 ∷ 1000 ∷ 2 ∷ 1000 ∷ [])
-    ∷ (0 ∷ 1 ∷ 3 ∷ 1000 ∷ 4 ∷ 1000 ∷ [])
-    ∷ (0 ∷ 1 ∷ 4 ∷ 1000 ∷ 5 ∷ 707 ∷ [])
+    ∷ (0 ∷ 0 ∷ 1 ∷ 2000 ∷ [])
+    ∷ (0 ∷ 0 ∷ 1 ∷ 2000 ∷ 2 ∷ 2000 ∷ [])
+    ∷ (0 ∷ 0 ∷ 1 ∷ 2000 ∷ 3 ∷ 2000 ∷ [])
+    ∷ (0 ∷ 1 ∷ 3 ∷ 2000 ∷ 2 ∷ 2000 ∷ [])
+    ∷ (0 ∷ 1 ∷ 3 ∷ 2000 ∷ 4 ∷ 2000 ∷ [])
+    ∷ (0 ∷ 1 ∷ 4 ∷ 2000 ∷ 5 ∷ 1414 ∷ [])
     ∷ [])
     -- T-05: after C10's first five frames
-    ∷ searching 3 100 c10Start (ask 1 (at 5 1 ∷ at 9 2 ∷ [])) (0 ∷ 1 ∷ 3 ∷ 1414 ∷ [])
-    ∷ searching 3 100 c10Start (ask 2 (at 5 1 ∷ at 9 2 ∷ [])) (0 ∷ 2 ∷ 3 ∷ 1414 ∷ 2 ∷ 1000 ∷ [])
-    ∷ searching 3 100 c10Start (ask 3 (at 5 1 ∷ at 9 2 ∷ [])) (0 ∷ 3 ∷ 3 ∷ 1414 ∷ 2 ∷ 1000 ∷ 4 ∷ 447 ∷ [])
-    ∷ searching 3 100 c10Start (ask 2 (at 40 1 ∷ [])) (0 ∷ 1 ∷ 3 ∷ 707 ∷ [])
+    ∷ searching 3 100 c10Start (ask 1 (at 5 1 ∷ at 9 2 ∷ [])) (0 ∷ 1 ∷ 3 ∷ 2828 ∷ [])
+    ∷ searching 3 100 c10Start (ask 2 (at 5 1 ∷ at 9 2 ∷ [])) (0 ∷ 2 ∷ 3 ∷ 2828 ∷ 2 ∷ 2000 ∷ [])
+    ∷ searching 3 100 c10Start (ask 3 (at 5 1 ∷ at 9 2 ∷ [])) (0 ∷ 3 ∷ 3 ∷ 2828 ∷ 2 ∷ 2000 ∷ 4 ∷ 894 ∷ [])
+    ∷ searching 3 100 c10Start (ask 2 (at 40 1 ∷ [])) (0 ∷ 1 ∷ 3 ∷ 1414 ∷ [])
     ∷ searching 3 100 c10Start (ask 1 (at 7 1 ∷ [])) (0 ∷ 0 ∷ [])
     -- a score that equals the sum is not above it; the lower of two equal terms first; two postings of one message are one message seen
-    ∷ searching 3 100 oneEach (ask 1 (at 5 1 ∷ at 9 1 ∷ [])) (0 ∷ 2 ∷ 2 ∷ 1000 ∷ [])
-    ∷ searching 3 100 bothInOne (ask 1 (at 5 1 ∷ at 9 1 ∷ [])) (0 ∷ 1 ∷ 1 ∷ 1414 ∷ [])
-    ∷ searching 3 100 bothInOne (ask 2 (at 5 1 ∷ at 9 1 ∷ [])) (0 ∷ 3 ∷ 1 ∷ 1414 ∷ 2 ∷ 707 ∷ [])
-    ∷ searching 3 100 twiceOne (ask 2 (at 5 2 ∷ at 9 2 ∷ at 40 1 ∷ [])) (0 ∷ 3 ∷ 1 ∷ 2828 ∷ 2 ∷ 1000 ∷ [])
+    ∷ searching 3 100 oneEach (ask 1 (at 5 1 ∷ at 9 1 ∷ [])) (0 ∷ 2 ∷ 2 ∷ 2000 ∷ [])
+    ∷ searching 3 100 bothInOne (ask 1 (at 5 1 ∷ at 9 1 ∷ [])) (0 ∷ 1 ∷ 1 ∷ 2828 ∷ [])
+    ∷ searching 3 100 bothInOne (ask 2 (at 5 1 ∷ at 9 1 ∷ [])) (0 ∷ 3 ∷ 1 ∷ 2828 ∷ 2 ∷ 1414 ∷ [])
+    ∷ searching 3 100 twiceOne (ask 2 (at 5 2 ∷ at 9 2 ∷ at 40 1 ∷ [])) (0 ∷ 3 ∷ 1 ∷ 5656 ∷ 2 ∷ 2000 ∷ [])
     -- a message, whole or not, is 2; a registration with a weight of 0 is 5
     ∷ searching 3 100 c10Start (encode (message 20 2 ungraded (at 5 1 ∷ []))) (2 ∷ 0 ∷ [])
     ∷ searching 3 100 c10Start (0x10 ∷ 0x00 ∷ 0x00 ∷ 0x00 ∷ 0x00 ∷ []) (2 ∷ 0 ∷ [])
     ∷ searching 3 100 c10Start (0x10 ∷ 0x00 ∷ 0x00 ∷ 0x00 ∷ []) (1 ∷ 0 ∷ [])
     ∷ searching 3 100 c10Start (0x30 ∷ 0x00 ∷ 0x00 ∷ 0x00 ∷ 0x00 ∷ 0x09 ∷ 0x02 ∷ 0x40 ∷ 0x05 ∷ 0x00 ∷ []) (5 ∷ 0 ∷ [])
+    -- T-06: a present term is never 0
+    ∷ impacts (replicate 32 255) (replicate 32 353)
+    ∷ impacts (1 ∷ replicate 31 255) (1 ∷ replicate 31 359)
+    ∷ spelling (message 10 1 (long vital) (at 5 1 ∷ [])) (0x70 ∷ 0x00 ∷ 0x00 ∷ 0x00 ∷ 0xa0 ∷ 0x00 ∷ 0x01 ∷ 0x80 ∷ 0x02 ∷ 0x80 ∷ 0x80 ∷ [])
+    ∷ spelling (message 10 1 (long vital) (numbered 0 (replicate 17 1)))
+    (0x70 ∷ 0x00 ∷ 0x00 ∷ 0x00 ∷ 0xa0 ∷ 0x00 ∷ 0x01 ∷ 0xa0 ∷ 0x00 ∷ 0x00 ∷ 0x80 ∷ 0x20 ∷ 0x20 ∷ 0x10 ∷ 0x08 ∷ 0x06 ∷ 0x02 ∷ 0x02 ∷ 0x00 ∷ 0x80 ∷ 0xa0 ∷ 0x20 ∷ 0x30 ∷ 0x08 ∷ 0x0e ∷ 0x02 ∷ 0x04 ∷ 0x00 ∷ 0x81 ∷ 0x20 ∷ 0x20 ∷ 0x50 ∷ 0x08 ∷ 0x16 ∷ 0x02 ∷ 0x06 ∷ 0x00 ∷ 0x81 ∷ 0xa0 ∷ 0x20 ∷ 0x70 ∷ 0x08 ∷ 0x1e ∷ 0x02 ∷ 0x08 ∷ 0x00 ∷ 0x80 ∷ [])
+    -- kind 7's bytes as kind 6, and kind 6's as kind 7
+    ∷ judging (0x60 ∷ 0x00 ∷ 0x00 ∷ 0x00 ∷ 0xa0 ∷ 0x00 ∷ 0x01 ∷ 0x80 ∷ 0x02 ∷ 0x80 ∷ 0x80 ∷ []) 3
+    ∷ judging (0x70 ∷ 0x00 ∷ 0x00 ∷ 0x00 ∷ 0xa0 ∷ 0x00 ∷ 0x01 ∷ 0x80 ∷ 0x05 ∷ 0x01 ∷ []) 3
+    -- as kind 6 is refused: each row mends one thing of the row above
+    ∷ judging (0x70 ∷ 0x00 ∷ 0x00 ∷ 0x00 ∷ 0xa0 ∷ 0x00 ∷ 0x01 ∷ 0xc2 ∷ 0x02 ∷ 0x80 ∷ 0x00 ∷ 0xa0 ∷ []) 3
+    ∷ judging (0x70 ∷ 0x00 ∷ 0x00 ∷ 0x00 ∷ 0xa0 ∷ 0x00 ∷ 0x01 ∷ 0xc2 ∷ 0x02 ∷ 0x80 ∷ 0x00 ∷ 0xa0 ∷ 0x21 ∷ []) 4
+    ∷ judging (0x70 ∷ 0x00 ∷ 0x00 ∷ 0x00 ∷ 0xa0 ∷ 0x00 ∷ 0x01 ∷ 0xc2 ∷ 0x02 ∷ 0x80 ∷ 0x00 ∷ 0xa0 ∷ 0x20 ∷ []) 14
+    ∷ judging (0x70 ∷ 0x00 ∷ 0x00 ∷ 0x00 ∷ 0xa0 ∷ 0x00 ∷ 0x01 ∷ 0x82 ∷ 0x02 ∷ 0x80 ∷ 0x00 ∷ 0xa0 ∷ 0x20 ∷ []) 5
+    ∷ judging (0x70 ∷ 0x00 ∷ 0x00 ∷ 0x00 ∷ 0xa0 ∷ 0x00 ∷ 0x01 ∷ 0x82 ∷ 0x02 ∷ 0x80 ∷ 0x80 ∷ 0xa0 ∷ 0x20 ∷ []) 6
+    ∷ passage 3 100 longer
+    ((0 ∷ 0 ∷ [])
+    ∷ (0 ∷ 0 ∷ 1 ∷ 2000 ∷ [])
+    ∷ (0 ∷ 0 ∷ 1 ∷ 2000 ∷ 2 ∷ 2000 ∷ [])
+    ∷ (0 ∷ 0 ∷ 1 ∷ 2000 ∷ 2 ∷ 2000 ∷ [])
+    ∷ (8 ∷ 0 ∷ 1 ∷ 2000 ∷ 2 ∷ 2000 ∷ [])
+    ∷ (0 ∷ 1 ∷ 2 ∷ 2000 ∷ 3 ∷ 353 ∷ [])
+    ∷ (0 ∷ 1 ∷ 3 ∷ 353 ∷ [])
+    ∷ [])
     -- "Order for a frame": of all that is wrong the first is told. Each row mends one thing of the row above.
     ∷ judging (0x00 ∷ 0x00 ∷ 0x00 ∷ 0x00 ∷ []) 1
     ∷ judging (0x00 ∷ 0x00 ∷ 0x00 ∷ 0x00 ∷ 0x00 ∷ 0x09 ∷ 0x02 ∷ 0x40 ∷ 0x05 ∷ 0x01 ∷ 0x00 ∷ []) 2

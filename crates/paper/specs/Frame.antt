@@ -1,5 +1,5 @@
 -- The frame: its fields, its bytes, and what any list of bytes is as a frame.
--- Document 01, "The frame", and document 02, T-02 and T-04. Assumes nothing.
+-- Document 01, "The frame", and document 02, T-02, T-04 and T-06. Assumes nothing.
 use Prim.Native.Nat.{ℕ, zero, suc, _+_, _-_, _*_, _/_, _^_, _≤_, _<_}
 use mathlib.Core.Path.{_≡_}
 use mathlib.Core.Bool.{Bool, true, cond, _&&_}
@@ -32,17 +32,25 @@ urgencyOf zero = routine
 urgencyOf (suc zero) = important
 urgencyOf (suc (suc n)) = vital
 
--- How a message frame says its urgency: not at all, which is kind 1, or in a field, which is kind 6.
+-- How a message is written: without its urgency, which is kind 1; with it, which is kind 6; with it and room for more pairs, which is kind 7.
 pub data Form : Type 0 where
   ungraded : Form
   graded : Urgency → Form
+  long : Urgency → Form
 
 -- "Kind 1 means routine."
 abbrev pub gradeOf : Form → Urgency
 gradeOf ungraded = routine
 gradeOf (graded u) = u
+gradeOf (long u) = u
 
--- The kinds with their fields: four of document 01, whose drop is `unregister`, and T-02's `cancel`. A message has two forms.
+-- the kind that a form is
+abbrev pub kindOf : Form → ℕ
+kindOf ungraded = 1
+kindOf (graded u) = 6
+kindOf (long u) = 7
+
+-- The kinds with their fields: four of document 01, whose drop is `unregister`, and T-02's `cancel`. A message has three forms.
 pub data Frame : Type 0 where
   message : (time serial : ℕ) → Form → List Pair → Frame
   tick : (time : ℕ) → Frame
@@ -75,6 +83,13 @@ serialWidth = 20
 
 abbrev pub urgencyWidth : ℕ
 urgencyWidth = 2
+
+-- the number of pairs of a message, less one: in kinds 1 and 6, and in kind 7
+abbrev pub pairsWidth : ℕ
+pairsWidth = 4
+
+abbrev pub longPairsWidth : ℕ
+longPairsWidth = 5
 
 abbrev pub numberWidth : ℕ
 numberWidth = 5
@@ -114,7 +129,7 @@ time = plain (λ f. f .time) timeWidth
 
 abbrev pub messageRow : Row
 messageRow = record {
-  head = time ∷ plain (λ f. f .serial) serialWidth ∷ lessOne (λ f. f .pairs) 4 ∷ [];
+  head = time ∷ plain (λ f. f .serial) serialWidth ∷ lessOne (λ f. f .pairs) pairsWidth ∷ [];
   amount = countWidth;
 }
 
@@ -134,12 +149,19 @@ unregisterRow = record { head = time ∷ plain (λ f. f .number) numberWidth ∷
 abbrev pub cancelRow : Row
 cancelRow = record { head = time ∷ plain (λ f. f .serial) serialWidth ∷ []; amount = 0 }
 
--- "a message with a 2-bit urgency after the serial"
-abbrev pub gradedRow : Row
-gradedRow = record {
-  head = time ∷ plain (λ f. f .serial) serialWidth ∷ grade (λ f. f .urgency) urgencyWidth ∷ lessOne (λ f. f .pairs) 4 ∷ [];
+-- "a message with a 2-bit urgency after the serial", its number of pairs in a field of w bits
+abbrev pub gradedBy : ℕ → Row
+gradedBy w = record {
+  head = time ∷ plain (λ f. f .serial) serialWidth ∷ grade (λ f. f .urgency) urgencyWidth ∷ lessOne (λ f. f .pairs) w ∷ [];
   amount = countWidth;
 }
+
+abbrev pub gradedRow : Row
+gradedRow = gradedBy pairsWidth
+
+-- "Kind 7 is kind 6 with a 5-bit pairs field"
+abbrev pub longRow : Row
+longRow = gradedBy longPairsWidth
 
 abbrev pub noRow : Row
 noRow = record { head = []; amount = 0 }
@@ -153,7 +175,8 @@ rowOf kind =
     (cond (eqb kind 4) unregisterRow
     (cond (eqb kind 5) cancelRow
     (cond (eqb kind 6) gradedRow
-    noRow)))))
+    (cond (eqb kind 7) longRow
+    noRow))))))
 
 -- whether a kind has a row
 abbrev pub known : Row → Bool
@@ -161,7 +184,7 @@ known row = ltb 0 (length (row .head))
 
 -- the most pairs of a message, terms of a query and entries of a list: what their fields can say
 abbrev pub mostPairs : ℕ
-mostPairs = 16
+mostPairs = 2 ^ longPairsWidth
 
 abbrev pub mostTerms : ℕ
 mostTerms = 8
@@ -188,7 +211,8 @@ unfoldable pub pairValues : List Pair → List ℕ
 pairValues [] = []
 pairValues (p ∷ ps) = p .term ∷ p .amount ∷ pairValues ps
 
--- "Bits: message 60 + 18m, tick 36, register 48 + 14n, drop 41", cancel 56, graded message 62 + 18m: fields of these widths, and m pairs
+-- "Bits: message 60 + 18m, tick 36, register 48 + 14n, drop 41", cancel 56, graded message 62 + 18m, long one 63 + 18m: fields of these widths, and
+-- m pairs
 abbrev pub bitsOf : List ℕ → ℕ → ℕ → ℕ
 bitsOf head w m = total head + m * (termWidth + w)
 
@@ -215,6 +239,7 @@ writtenBy row values pairs = written (widths row) (row .amount) values pairs
 unfoldable pub encode : Frame → List ℕ
 encode (message t s ungraded ps) = writtenBy messageRow (1 ∷ t ∷ s ∷ (length ps - 1) ∷ []) ps
 encode (message t s (graded u) ps) = writtenBy gradedRow (6 ∷ t ∷ s ∷ level u ∷ (length ps - 1) ∷ []) ps
+encode (message t s (long u) ps) = writtenBy longRow (7 ∷ t ∷ s ∷ level u ∷ (length ps - 1) ∷ []) ps
 encode (tick t) = writtenBy tickRow (2 ∷ t ∷ []) []
 encode (register t n k ps) = writtenBy registerRow (3 ∷ t ∷ n ∷ (k - 1) ∷ (length ps - 1) ∷ []) ps
 encode (unregister t n) = writtenBy unregisterRow (4 ∷ t ∷ n ∷ []) []
@@ -237,7 +262,8 @@ frameOf kind values pairs =
     (cond (eqb kind 4) (accepted (unregister (at 0) (at 1)))
     (cond (eqb kind 5) (accepted (cancel (at 0) (at 1)))
     (cond (eqb kind 6) (accepted (message (at 0) (at 1) (graded (urgencyOf (at 2))) pairs))
-    (refused 2))))))
+    (cond (eqb kind 7) (accepted (message (at 0) (at 1) (long (urgencyOf (at 2))) pairs))
+    (refused 2)))))))
 
 -- the values of the fields after the kind, one after the other
 abbrev pub valuesAt : List ℕ → Row → List ℕ
@@ -317,10 +343,16 @@ pub record Pairs (w most : ℕ) (ps : List Pair) : Type 0 where
   pub above-zero : positive ps ≡ true
   pub in-order : rising ps ≡ true
 
-pub record ValidMessage (t s : ℕ) (ps : List Pair) : Type 0 where
+-- the most pairs of a message in a form: "Kinds 1 and 6 stay readable at 16"
+abbrev pub mostIn : Form → ℕ
+mostIn ungraded = 2 ^ pairsWidth
+mostIn (graded u) = 2 ^ pairsWidth
+mostIn (long u) = mostPairs
+
+pub record ValidMessage (t s : ℕ) (g : Form) (ps : List Pair) : Type 0 where
   pub time : t < 2 ^ timeWidth
   pub serial : s < 2 ^ serialWidth
-  pub pairs : Pairs countWidth mostPairs ps
+  pub pairs : Pairs countWidth (mostIn g) ps
 
 pub record ValidQuery (t n k : ℕ) (ps : List Pair) : Type 0 where
   pub time : t < 2 ^ timeWidth
@@ -331,7 +363,7 @@ pub record ValidQuery (t n k : ℕ) (ps : List Pair) : Type 0 where
 
 -- every field is within its range
 abbrev pub Valid : Frame → Type 0
-Valid (message t s g ps) = ValidMessage t s ps
+Valid (message t s g ps) = ValidMessage t s g ps
 Valid (tick t) = t < 2 ^ timeWidth
 Valid (register t n k ps) = ValidQuery t n k ps
 Valid (unregister t n) = (t < 2 ^ timeWidth) × (n < numbers)

@@ -6,11 +6,11 @@ use mathlib.Core.List.{List, [], _∷_}
 use lib.Dec.{eqb, leb}
 use Rattle.paper.specs.Frame.{Pair}
 
--- "1,000 is the top of the scale"
+-- "1,000 is the top of the scale", and "1,000 becomes 2,000" (T-06), so that no term of a message comes out as 0
 abbrev pub top : ℕ
-top = 1000
+top = 2000
 
--- "w² × n ≤ (1000 × f)²"
+-- "w² × n ≤ (1000 × f)²", on the scale to the top
 abbrev pub meets : ℕ → ℕ → ℕ → Bool
 meets f n w = leb (w * w * n) ((top * f) * (top * f))
 
@@ -19,7 +19,7 @@ unfoldable pub greatest : (ℕ → Bool) → ℕ → ℕ
 greatest test zero = 0
 greatest test (suc w) = let below = greatest test w in cond (test (suc w)) (suc w) below
 
--- "the greatest whole w with w² × n ≤ (1000 × f)²": of a count f in a message whose counts squared sum to n, none is above the top
+-- "the greatest whole w" that meets this: of a count f in a message whose counts squared sum to n, none is above the top
 unfoldable pub impact : ℕ → ℕ → ℕ
 impact f n = greatest (meets f n) top
 

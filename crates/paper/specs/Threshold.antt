@@ -54,7 +54,7 @@ weightAt qs i = getD qs i (record { term = 0; amount = 0 }) .amount
 abbrev pub Exceeds : List Pair → List ℕ → List Pair → Type 0
 Exceeds qs hs ps = (i : ℕ) × (i < length qs) × (getD hs i 0 < impactIn ps (termAt qs i))
 
--- "the threshold sum is strictly below the k-th score, and adding one to any threshold below 1,000 would bring the sum to that score or over"
+-- "the threshold sum is strictly below the k-th score, and adding one to any threshold below 1,000", the top, "would bring the sum to that score or over"
 pub record Tight (qs : List Pair) (hs : List ℕ) (kth : ℕ) : Type 0 where
   pub safe : thresholdSum qs hs < kth
   pub tight : (i : ℕ) → i < length qs → getD hs i 0 < top → kth ≤ thresholdSum qs hs + weightAt qs i

@@ -8,7 +8,7 @@ use lib.ListN.{length}
 use lib.Dec.{eqb, leb, ltb}
 use Rattle.paper.specs.Frame.{Pair, Frame, Shape, encode, termWidth, level, Fields, Field, Row, rowOf, known, frameOf, gradesKnown, judged}
 use Rattle.paper.specs.Frame.Frame.{message, tick, register, unregister, cancel}
-use Rattle.paper.specs.Frame.Form.{ungraded, graded}
+use Rattle.paper.specs.Frame.Form.{ungraded, graded, long}
 use Rattle.paper.specs.Frame.Field.{plain, lessOne, grade}
 use Rattle.paper.specs.Frame.Shape.{refused, accepted}
 
@@ -88,6 +88,7 @@ fieldsFor kind t s u n k m ts us =
 abbrev pub fieldsWith : Frame → List ℕ → List ℕ → Fields
 fieldsWith (message t s ungraded ps) ts us = fieldsFor 1 t s 0 0 0 (length ps) ts us
 fieldsWith (message t s (graded u) ps) ts us = fieldsFor 6 t s (level u) 0 0 (length ps) ts us
+fieldsWith (message t s (long u) ps) ts us = fieldsFor 7 t s (level u) 0 0 (length ps) ts us
 fieldsWith (tick t) ts us = fieldsFor 2 t 0 0 0 0 0 ts us
 fieldsWith (register t n k ps) ts us = fieldsFor 3 t 0 0 n k (length ps) ts us
 fieldsWith (unregister t n) ts us = fieldsFor 4 t 0 0 n 0 0 ts us

@@ -2,7 +2,7 @@
 pub mod layout;
 
 // The most pairs of a message, terms of a query and entries of a list.
-pub const MOST_PAIRS: usize = 16;
+pub const MOST_PAIRS: usize = 32;
 
 pub const MOST_TERMS: usize = 8;
 

@@ -9,7 +9,7 @@ use mathlib.Core.List.{List, [], _∷_, _++_, map}
 use lib.ListN.{length, drop, length-map}
 use lib.Dec.{ltb}
 use borrow.Author.Tests.{ltb-true, ltb-false, lt-ltb, ne-eqb}
-use Rattle.paper.specs.Frame.{serialWidth}
+use Rattle.paper.specs.Frame.{serialWidth, mostPairs}
 use Rattle.paper.specs.Window.{Message, aged, filling, filled}
 use Rattle.paper.specs.Layout.{slots}
 use Rattle.paper.specs.Log.{Log, hasSerial, filledAt, filledNow}
@@ -34,7 +34,7 @@ unfolding holdsSerial hasSerial stored silenced select
 holds-serial s h [] v = refl
 holds-serial s h (m ∷ ms) v =
     by-bool (m .cancelled)
-    (λ e. rw (e, holds-serial s h ms (v .2), ne-eqb (m .serial % 2 ^ serialWidth + 2 ^ serialWidth * min (length (m .pairs)) 16) s (λ z. omega (arith, v .1 .least-one))))
+    (λ e. rw (e, holds-serial s h ms (v .2), ne-eqb (m .serial % 2 ^ serialWidth + 2 ^ serialWidth * min (length (m .pairs)) mostPairs) s (λ z. omega (arith, v .1 .least-one))))
     (λ e. rw (e, holds-serial s h ms (v .2)))
 
 -- so one that has a serial that a frame can say isn't
@@ -42,7 +42,7 @@ pub held-serial : (s : ℕ) → s < 2 ^ serialWidth → (m : Message) → 1 ≤ 
 unfolding stored silenced
 held-serial s h m some e =
     by-bool (m .cancelled)
-    (λ c. let z : m .serial % 2 ^ serialWidth + 2 ^ serialWidth * min (length (m .pairs)) 16 ≡ s = rw c at e in absurd (omega arith))
+    (λ c. let z : m .serial % 2 ^ serialWidth + 2 ^ serialWidth * min (length (m .pairs)) mostPairs ≡ s = rw c at e in absurd (omega arith))
     (λ c. (c, rw c at e))
 
 -- the slots in force of some that hold messages hold those in force

@@ -1,10 +1,9 @@
 -- `frame` meets its contract. Assumes nothing.
-use Rattle.engine.proofs.ReadLaws.{read-message, read-urgent, read-register, read-eight, read-unregister, read-as}
+use Rattle.engine.proofs.ReadLaws.{read-message, read-register, read-eight, read-unregister, read-as}
 use Rattle.engine.proofs.PostLaws.{not-lent, misshapen, done}
 use native.Mathlib.Omega.{arith}
 use mathlib.Core.Path.{refl}
 use borrow.Author.Needs.{needs}
-use Rattle.paper.specs.Frame.Form.{ungraded}
 use Rattle.engine.proofs.frame.Statement.{statement}
 use Rattle.engine.proofs.frame.Tie as tie
 
@@ -20,18 +19,8 @@ message-requires c κs =
     let opened = parsed .before .before .before in
     let bytes = opened .before .args .bytes .now in
     let read = parsed .read in
-    let m = read-message bytes (read .result) (read .ensures) _ _ _ (arm .what .given .1) in
-    ((search needs, omega arith), ((m .least, m .most), m .fit))
-
-message-requires-2 : tie.Need-message-requires-2
-message-requires-2 c κs =
-    let arm = c .before .before in
-    let parsed = arm .before .before .before .before in
-    let opened = parsed .before .before .before in
-    let bytes = opened .before .args .bytes .now in
-    let read = parsed .read in
-    let m = read-urgent bytes (read .result) (read .ensures) _ _ _ _ (arm .what6 .given .1) in
-    ((search needs, omega (arith, m .1)), ((m .0 .least, m .0 .most), m .0 .fit))
+    let m = read-message bytes (read .result) (read .ensures) _ _ _ _ _ (arm .what .given .1) in
+    ((search needs, m .1 .0), ((m .0 .least, m .0 .most), m .0 .fit))
 
 register-requires : tie.Need-register-requires
 register-requires c κs =
@@ -60,9 +49,9 @@ returns-2 c =
     let opened = parsed .before .before .before in
     let bytes = opened .before .args .bytes .now in
     let read = parsed .read in
-    let m = read-message bytes (read .result) (read .ensures) _ _ _ (arm .what .given .1) in
-    done _ _ _ _ _ (search needs) (search needs) (m .is) (λ i. opened .slice-known .given i .fits) (λ i. c .slice-known2 .given i .fits)
-    (c .before .before .message .ensures ungraded refl)
+    let m = read-message bytes (read .result) (read .ensures) _ _ _ _ _ (arm .what .given .1) in
+    done _ _ _ _ _ (search needs) (search needs) (m .0 .is) (λ i. opened .slice-known .given i .fits) (λ i. c .slice-known2 .given i .fits)
+    (c .before .before .message .ensures _ (m .1 .1))
 
 returns-3 : tie.Need-returns-3
 returns-3 c =
@@ -112,23 +101,12 @@ returns-6 c =
 
 returns-7 : tie.Need-returns-7
 returns-7 c =
-    let arm = c .before .before .before .before .before in
-    let parsed = arm .before .before .before .before in
-    let opened = parsed .before .before .before in
-    let bytes = opened .before .args .bytes .now in
-    let read = parsed .read in
-    let m = read-urgent bytes (read .result) (read .ensures) _ _ _ _ (arm .what6 .given .1) in
-    done _ _ _ _ _ (search needs) (search needs) (m .0 .is) (λ i. opened .slice-known .given i .fits) (λ i. c .slice-known7 .given i .fits)
-    (c .before .before .message2 .ensures _ refl)
-
-returns-8 : tie.Need-returns-8
-returns-8 c =
     let arm = c .before .before in
     let parsed = arm .before .before .before .before in
     let opened = parsed .before .before .before in
     let bytes = opened .before .args .bytes .now in
     let read = parsed .read in
-    misshapen _ _ _ _ (search needs) (read-as bytes (read .result) (read .ensures) _ (arm .what7 .given .1)) (c .refused2 .ensures)
+    misshapen _ _ _ _ (search needs) (read-as bytes (read .result) (read .ensures) _ (arm .what6 .given .1)) (c .refused2 .ensures)
 
 pub frame-spec : {M : Type 1} → statement M
 frame-spec =
@@ -152,8 +130,6 @@ frame-spec =
     (λ c. search needs)
     (λ c κs. search needs)
     (λ c. search needs)
-    message-requires-2
-    (λ c. search needs)
     (λ c κs. search needs)
     (λ c. search needs)
     returns-2
@@ -165,6 +141,4 @@ frame-spec =
     returns-5
     (λ c. search needs)
     returns-6
-    (λ c. search needs)
-    returns-7
-    returns-8)
+    returns-7)

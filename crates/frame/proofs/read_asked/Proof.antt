@@ -15,14 +15,14 @@ returns c =
     asked-refused (opened .before .before .args .bytes .now) (opened .read .result) (opened .read .ensures) _ _ (arm .what .given .1)
     (rw (← c .before .asked-refusal .ensures) (c .not-asked .ensures))
 
--- the cases that come here, by their places in the enum: all but 2, a registration, and all but 6, a refusal
+-- the cases that come here, by their places in the enum: all but 2, a registration, and all but 5, a refusal
 returns-2 : tie.Need-returns-2
 returns-2 c =
     let arm = c .before in
     let opened = arm .before .before in
     asked-other (opened .before .before .args .bytes .now) (opened .read .result) (opened .read .ensures) _
-    (λ t n k m e. miss (0 ∷ 1 ∷ 3 ∷ 4 ∷ 5 ∷ 6 ∷ []) 2 tt (rw e at (arm .match2 .keys2)))
-    (λ number e. miss (0 ∷ 1 ∷ 2 ∷ 3 ∷ 4 ∷ 5 ∷ []) 6 tt (rw e at (arm .before .match .keys2)))
+    (λ t n k m e. miss (0 ∷ 1 ∷ 3 ∷ 4 ∷ 5 ∷ []) 2 tt (rw e at (arm .match2 .keys2)))
+    (λ number e. miss (0 ∷ 1 ∷ 2 ∷ 3 ∷ 4 ∷ []) 5 tt (rw e at (arm .before .match .keys2)))
     (c .not-asked2 .ensures)
 
 returns-3 : tie.Need-returns-3

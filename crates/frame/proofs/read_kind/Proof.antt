@@ -5,7 +5,7 @@ use lib.Dec.{lit<}
 use native.Mathlib.Omega.{arith}
 use mathlib.Core.Path.{_≡_, sym, _∙_}
 use Rattle.wire.specs.Field.{total}
-use Rattle.paper.specs.Frame.{kindWidth, rowOf, widths, valuesAt, pairsBy, gradesKnown, frameOf, pairsAt}
+use Rattle.paper.specs.Frame.{mostPairs, kindWidth, rowOf, widths, valuesAt, pairsBy, gradesKnown, frameOf, pairsAt}
 use Rattle.paper.proofs.FrameLaws.{length-pairs}
 use Rattle.frame.specs.Read.{CheckedPost, padded}
 use Rattle.frame.proofs.ReadLaws.{unknown, by-row, grade-known, read-refused, read-made, read-short, read-framed}
@@ -82,7 +82,7 @@ checked-pairs-requires c κs =
     let o = n .before .before .before .before .before .before .before in
     let a = o .before .before .args in
     let b = small (a .bytes .now) (a .kind) in
-    let m : n .pairs-by .result ≤ 16 = rw (pairs-said n) (b .few) in
+    let m : n .pairs-by .result ≤ mostPairs = rw (pairs-said n) (b .few) in
     let w : o .row-of .result .amount ≤ 8 = rw (o .row-of .ensures .amount) (b .light) in
     let h = pairs-light (n .pairs-by .result) (o .row-of .result .amount) m w in
     omega arith

@@ -2,7 +2,7 @@
 use mathlib.Core.Path.{refl}
 use lib.Dec.{lit≤}
 use Rattle.wire.specs.Field.{total}
-use Rattle.paper.specs.Frame.{messageRow, tickRow, registerRow, unregisterRow, cancelRow, gradedRow, noRow, rowOf}
+use Rattle.paper.specs.Frame.{messageRow, tickRow, registerRow, unregisterRow, cancelRow, gradedRow, longRow, noRow, rowOf}
 use Rattle.paper.proofs.FrameLaws.{no-row}
 use Rattle.frame.proofs.HeadLaws.{row-as}
 use Rattle.frame.proofs.row_of.Statement.{statement}
@@ -33,11 +33,15 @@ unfolding rowOf total
 returns-6 c = rw (c .before .match .keys6) (row-as gradedRow _ _ _ _ (c .row-with6 .ensures) refl refl refl refl)
 
 returns-7 : tie.Need-returns-7
+unfolding rowOf total
+returns-7 c = rw (c .before .match .keys7) (row-as longRow _ _ _ _ (c .row-with7 .ensures) refl refl refl refl)
+
+returns-8 : tie.Need-returns-8
 unfolding total
-returns-7 c =
+returns-8 c =
     let no = c .before .match .rest in
-    rw (no-row (c .before .before .args .kind) (no .0 .0 .0 .0 .0 .1) (no .0 .0 .0 .0 .1) (no .0 .0 .0 .1) (no .0 .0 .1) (no .0 .1) (no .1))
-    (row-as noRow _ _ _ _ (c .row-with7 .ensures) refl refl refl refl)
+    rw (no-row (c .before .before .args .kind) (no .0 .0 .0 .0 .0 .0 .1) (no .0 .0 .0 .0 .0 .1) (no .0 .0 .0 .0 .1) (no .0 .0 .0 .1) (no .0 .0 .1) (no .0 .1) (no .1))
+    (row-as noRow _ _ _ _ (c .row-with8 .ensures) refl refl refl refl)
 
 pub row-of-spec : {M : Type 1} → statement M
 row-of-spec =
@@ -45,4 +49,5 @@ row-of-spec =
     (λ c κs. (lit≤ tt, (lit≤ tt, (lit≤ tt, (lit≤ tt, (lit≤ tt, tt)))))) (λ c κs. (lit≤ tt, (lit≤ tt, (lit≤ tt, (lit≤ tt, (lit≤ tt, tt))))))
     (λ c κs. (lit≤ tt, (lit≤ tt, (lit≤ tt, (lit≤ tt, (lit≤ tt, tt)))))) (λ c κs. (lit≤ tt, (lit≤ tt, (lit≤ tt, (lit≤ tt, (lit≤ tt, tt))))))
     (λ c κs. (lit≤ tt, (lit≤ tt, (lit≤ tt, (lit≤ tt, (lit≤ tt, tt)))))) (λ c κs. (lit≤ tt, (lit≤ tt, (lit≤ tt, (lit≤ tt, (lit≤ tt, tt))))))
-    returns returns-2 returns-3 returns-4 returns-5 returns-6 returns-7)
+    (λ c κs. (lit≤ tt, (lit≤ tt, (lit≤ tt, (lit≤ tt, (lit≤ tt, tt))))))
+    returns returns-2 returns-3 returns-4 returns-5 returns-6 returns-7 returns-8)

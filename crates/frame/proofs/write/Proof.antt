@@ -6,7 +6,7 @@ use mathlib.Core.Bool.{true}
 use mathlib.Core.List.{map}
 use lib.ListN.{length}
 use borrow.Author.Tests.{not-true, not-false}
-use Rattle.paper.specs.Frame.{Fields, rowOf, gradesKnown, encode, bytesFor}
+use Rattle.paper.specs.Frame.{mostPairs, Fields, rowOf, gradesKnown, encode, bytesFor}
 use Rattle.paper.specs.Frame.Shape.{accepted}
 use Rattle.paper.specs.Write.{headWithin, valueOf, pairsTaken, fromFields}
 use Rattle.paper.proofs.WriteLaws.{Made, taken-most}
@@ -95,12 +95,12 @@ taken c =
     taken-as (handed (start o)) (o .row-of .result) (o .row-of .ensures) (c .pairs-taken .result) (c .pairs-taken .ensures)
 
 little : (c : tie.After-pairs-taken) → let r = with-row (valued (c .before)) .row-of .result in let m = c .pairs-taken .result in
-    (m ≤ 16) × (r .amount ≤ 8) × (r .bits ≤ 62) × (m * (10 + r .amount) ≤ 288)
+    (m ≤ mostPairs) × (r .amount ≤ 8) × (r .bits ≤ 63) × (m * (10 + r .amount) ≤ 576)
 little c =
     let o = with-row (valued (c .before)) in
     let x = handed (start o) in
     let b = small (x .terms) (x .kind) in
-    let m : c .pairs-taken .result ≤ 16 = rw (taken c) (taken-most x (x .kind) (all-in-range (c .before))) in
+    let m : c .pairs-taken .result ≤ mostPairs = rw (taken c) (taken-most x (x .kind) (all-in-range (c .before))) in
     let w : o .row-of .result .amount ≤ 8 = omega (arith, b .light, o .row-of .ensures .amount) in
     (m, w, omega (arith, b .short, o .row-of .ensures .bits), pairs-light _ _ m w)
 
