@@ -4,7 +4,8 @@
  *   cc -std=c99 host.c $(pkg-config --cflags --libs fennelrake) -o host && ./host
  *
  * The passage is C10 of the document that describes the ranker: at most 3 messages in force, each up to the age of 100 seconds. Then a message is
- * cancelled and sent again, mended; and of messages with equal scores a vital one stands first. The lines printed are the document's:
+ * cancelled and sent again, mended; of messages with equal scores a vital one stands first; and a long message has more terms than another could.
+ * The lines printed are the document's:
  *
  *   ordinal, number, marks, departures      for each frame
  *   Q, query, entries, serial and score ..  after it, for each marked query that is still registered
@@ -46,6 +47,10 @@ static const struct fields passage[] = {
     /* a vital message of the same score, and then a routine one, which is the latest: the vital one stays first, but in the postings the latest is */
     {FENNELRAKE_URGENT_MESSAGE, 122, 5, FENNELRAKE_VITAL, 0, 0, 2, {5, 9}, {1, 1}},
     {FENNELRAKE_MESSAGE, 123, 6, 0, 0, 0, 2, {5, 9}, {1, 1}},
+    /* a dredging notice of 17 terms, most of all about the query's: it comes first by its score, and the vital message after it */
+    {FENNELRAKE_LONG_MESSAGE, 124, 7, FENNELRAKE_ROUTINE, 0, 0, 17,
+     {5, 9, 60, 61, 62, 63, 64, 65, 66, 67, 68, 69, 70, 71, 72, 73, 74},
+     {8, 16, 1, 1, 1, 1, 1, 1, 1, 1, 1, 1, 1, 1, 1, 1, 1}},
 };
 
 /* What a pilot asks for once, the best 2 messages: term 5 with weight 1, term 40 with weight 2. Time and number aren't looked at. */

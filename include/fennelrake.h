@@ -36,14 +36,14 @@ extern "C" {
 
 /* ---- sizes in bytes */
 
-#define FENNELRAKE_STATE_SIZE 27232       /* the state memory: exactly so long */
+#define FENNELRAKE_STATE_SIZE 43680       /* the state memory: exactly so long */
 #define FENNELRAKE_FRAME_ANSWER_SIZE 8    /* what fennelrake_frame writes */
 #define FENNELRAKE_LIST_ANSWER_SIZE 132   /* what fennelrake_list writes */
 #define FENNELRAKE_SEARCH_ANSWER_SIZE 136 /* what fennelrake_search writes */
 #define FENNELRAKE_POSTING_SIZE 8         /* what fennelrake_postings writes for each posting */
 #define FENNELRAKE_MOST_POSTINGS 256      /* no term has more postings */
 #define FENNELRAKE_POSTINGS_SIZE 2048     /* enough for the postings of any term */
-#define FENNELRAKE_LONGEST_FRAME 44       /* enough for fennelrake_write, whatever the frame */
+#define FENNELRAKE_LONGEST_FRAME 80       /* enough for fennelrake_write, whatever the frame */
 
 /* ---- ranges */
 
@@ -53,11 +53,12 @@ extern "C" {
 #define FENNELRAKE_QUERIES 32             /* query numbers are below this */
 #define FENNELRAKE_LIST_PLACES 16         /* k, the length of a list, is 1 to this */
 #define FENNELRAKE_TERMS 1024             /* terms are below this */
-#define FENNELRAKE_MOST_PAIRS 16          /* a message has 1 to this many pairs of term and count */
+#define FENNELRAKE_MOST_PAIRS 32          /* a long message has 1 to this many pairs of term and count */
+#define FENNELRAKE_MOST_SHORT_PAIRS 16    /* a message of another kind has 1 to this many */
 #define FENNELRAKE_MOST_COUNT 255         /* counts are 1 to this */
 #define FENNELRAKE_MOST_QUERY_TERMS 8     /* a query has 1 to this many pairs of term and weight */
 #define FENNELRAKE_MOST_WEIGHT 15         /* weights are 1 to this */
-#define FENNELRAKE_TOP_IMPACT 1000        /* impacts are 0 to this */
+#define FENNELRAKE_TOP_IMPACT 2000        /* impacts are 0 to this */
 
 /* ---- kinds of frame */
 
@@ -67,7 +68,8 @@ enum {
     FENNELRAKE_REGISTER = 3,
     FENNELRAKE_DROP = 4,
     FENNELRAKE_CANCEL = 5,
-    FENNELRAKE_URGENT_MESSAGE = 6         /* a message that says its urgency; FENNELRAKE_MESSAGE means a routine one */
+    FENNELRAKE_URGENT_MESSAGE = 6,        /* a message that says its urgency; FENNELRAKE_MESSAGE means a routine one */
+    FENNELRAKE_LONG_MESSAGE = 7           /* the same with up to FENNELRAKE_MOST_PAIRS pairs */
 };
 
 /* ---- urgencies of a message: among equal scores the more urgent one stands first */
@@ -83,7 +85,7 @@ enum {
 enum {
     FENNELRAKE_ACCEPTED = 0,
     FENNELRAKE_REFUSED_SHORT = 1,         /* a frame of fewer than 5 bytes */
-    FENNELRAKE_REFUSED_KIND = 2,          /* the kind is none of the six; in a search any but FENNELRAKE_REGISTER */
+    FENNELRAKE_REFUSED_KIND = 2,          /* the kind is none of the seven; in a search any but FENNELRAKE_REGISTER */
     FENNELRAKE_REFUSED_LENGTH = 3,        /* a frame longer or shorter than its fields need */
     FENNELRAKE_REFUSED_FILL = 4,          /* a bit after the frame's last field is one */
     FENNELRAKE_REFUSED_VALUE = 5,         /* a count or weight of 0; in writer and readings a value outside its range */
@@ -128,14 +130,14 @@ uint32_t fennelrake_start(uint8_t *state, size_t state_length, uint32_t capacity
  * Refusals, in this order; a refused frame doesn't move the clock:
  *   12  state_length is not FENNELRAKE_STATE_SIZE, or answer_length is below FENNELRAKE_FRAME_ANSWER_SIZE
  *    1  fewer than 5 bytes
- *    2  a kind other than the six
+ *    2  a kind other than the seven
  *    3  not as many bytes as the fields need, or too few to tell
  *    4  a bit after the last field is one
- *   14  in an urgent message, the urgency is 3
+ *   14  in an urgent or a long message, the urgency is 3
  *    5  a count or a weight, of any pair, is 0
  *    6  terms don't rise
  *    7  the time is below the clock
- *    8  in a message of either kind, the serial is that of one in force at the frame's time, even of one that would leave for N
+ *    8  in a message of any kind, the serial is that of one in force at the frame's time, even of one that would leave for N
  *   13  in a cancellation, the serial is that of none in force at the frame's time
  *    9  the number to register is in use
  *   10  the number to drop isn't in use
@@ -147,6 +149,7 @@ uint32_t fennelrake_start(uint8_t *state, size_t state_length, uint32_t capacity
  *   drop      4 kind (4), 32 time, 5 number
  *   cancel    4 kind (5), 32 time, 20 serial
  *   urgent    4 kind (6), 32 time, 20 serial, 2 urgency, 4 pairs less one, then for each pair 10 term, 8 count
+ *   long      4 kind (7), 32 time, 20 serial, 2 urgency, 5 pairs less one, then for each pair 10 term, 8 count
  */
 uint32_t fennelrake_frame(uint8_t *state, size_t state_length, const uint8_t *bytes, size_t bytes_length, uint8_t *answer, size_t answer_length);
 
@@ -166,8 +169,8 @@ uint32_t fennelrake_list(const uint8_t *state, size_t state_length, uint32_t num
 
 /*
  * Reads the postings of a term: the messages in force that have it, higher impacts first, and among equal ones the later message, however urgent
- * they are. The impact of a term with count f in a message whose counts squared sum to n is the greatest whole w with w * w * n at most
- * (1000 * f) * (1000 * f).
+ * they are. The impact of a term with count f in a message whose counts squared sum to n is the greatest whole w with w * w * n at most the square
+ * of FENNELRAKE_TOP_IMPACT * f.
  *
  * Writes FENNELRAKE_POSTING_SIZE bytes for each posting: serial and impact. The state isn't written. FENNELRAKE_POSTINGS_SIZE bytes are always
  * enough; with fewer, it depends on how many postings there are.
@@ -212,6 +215,7 @@ uint32_t fennelrake_search(const uint8_t *state, size_t state_length, const uint
  *   FENNELRAKE_DROP            time, number
  *   FENNELRAKE_CANCEL          time, serial
  *   FENNELRAKE_URGENT_MESSAGE  time, serial, urgency, pairs, terms, amounts (counts)
+ *   FENNELRAKE_LONG_MESSAGE    time, serial, urgency, pairs, terms, amounts (counts)
  * The others may be anything; slices that aren't looked at may be null with length 0.
  *
  * Terms are two bytes each, the higher byte first (fennelrake_put_term puts one); amounts are one byte each. The first `pairs` of both are the
@@ -221,11 +225,11 @@ uint32_t fennelrake_search(const uint8_t *state, size_t state_length, const uint
  * bytes. No engine is asked: whether time, serial and number suit one is judged when the frame is handed to it.
  *
  * Refusals, in this order:
- *    2  a kind other than the six
+ *    2  a kind other than the seven
  *   14  an urgency above 2
- *    5  a value outside its range: serial above 1048575; number above 31; k not 1 to 16; pairs not 1 to 16 in a message or 1 to 8 in a
- *       registration, or more than the terms or the amounts lent (a last odd byte of terms is no term); and in any pair a term above 1023, a
- *       count of 0, a weight not 1 to 15. A time may be any number.
+ *    5  a value outside its range: serial above 1048575; number above 31; k not 1 to 16; pairs not 1 to 32 in a long message, 1 to 16 in another
+ *       or 1 to 8 in a registration, or more than the terms or the amounts lent (a last odd byte of terms is no term); and in any pair a term above
+ *       1023, a count of 0, a weight not 1 to 15. A time may be any number.
  *    6  terms don't rise
  *   12  out_length is below the frame's length; FENNELRAKE_LONGEST_FRAME bytes are always enough
  */

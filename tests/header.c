@@ -40,8 +40,8 @@ static int untouched(const uint8_t *bytes, size_t length)
     return 1;
 }
 
-/* Terms 0, 1, 2 .. and amounts of 1, more than any frame has; and an urgency, which only urgent messages have. */
-enum { PLENTY = 20 };
+/* Terms 0, 1, 2 .. and amounts of 1, more than any frame has; and an urgency, which only urgent and long messages have. */
+enum { PLENTY = 40 };
 static uint8_t terms[2 * PLENTY], amounts[PLENTY];
 static uint32_t urgency = UINT32_MAX;
 
@@ -141,6 +141,7 @@ static void frames(void)
 {
     /* a tick at 120 */
     static const uint8_t tick[] = {0x20, 0x00, 0x00, 0x07, 0x80};
+    uint32_t kind;
 
     EXPECT(written(FENNELRAKE_TICK, 120, 0, 0, 0, 0), FENNELRAKE_ACCEPTED);
     EXPECT(frame_length == sizeof tick && memcmp(frame, tick, sizeof tick) == 0, 1);
@@ -151,28 +152,59 @@ static void frames(void)
     frame_length = sizeof tick;
     frame[4] = 0x81;
     EXPECT(handed(), FENNELRAKE_REFUSED_FILL);
-    frame[0] = (FENNELRAKE_URGENT_MESSAGE + 1) << 4;
-    EXPECT(handed(), FENNELRAKE_REFUSED_KIND);
+    for (kind = 0; kind < 16; kind++) {
+        frame[0] = (uint8_t)(kind << 4);
+        EXPECT(handed(), kind < FENNELRAKE_MESSAGE || kind > FENNELRAKE_LONG_MESSAGE ? FENNELRAKE_REFUSED_KIND
+                         : kind == FENNELRAKE_TICK                                   ? FENNELRAKE_REFUSED_FILL
+                                                                                     : FENNELRAKE_REFUSED_LENGTH);
+    }
+}
 
-    /* two pairs: the first count's last bit is bit 77, and the second term's bit 87 */
-    EXPECT(written(FENNELRAKE_MESSAGE, 0, 0, 0, 0, 2), FENNELRAKE_ACCEPTED);
-    frame[9] = (uint8_t)(frame[9] & ~0x04);
-    EXPECT(handed(), FENNELRAKE_REFUSED_VALUE);
-    EXPECT(written(FENNELRAKE_MESSAGE, 0, 0, 0, 0, 2), FENNELRAKE_ACCEPTED);
-    frame[10] = (uint8_t)(frame[10] & ~0x01);
-    EXPECT(handed(), FENNELRAKE_REFUSED_ORDER);
+/* Turns a bit of the frame round. */
+static void turn(size_t bit)
+{
+    frame[bit / 8] = (uint8_t)(frame[bit / 8] ^ 0x80 >> bit % 8);
+}
 
-    /* an urgent one of one pair: byte 7 begins with its urgency, and byte 9 is the count */
+/* A message of three pairs, which begin with bit `first`, and fault after fault in it: each is judged before those that it has already. */
+static void faults(uint32_t kind, size_t first)
+{
+    EXPECT(fennelrake_start(state, FENNELRAKE_STATE_SIZE, 3, 1000), FENNELRAKE_ACCEPTED);
     urgency = FENNELRAKE_VITAL;
-    EXPECT(written(FENNELRAKE_URGENT_MESSAGE, 0, 0, 0, 0, 1), FENNELRAKE_ACCEPTED);
-    EXPECT(frame[0] >> 4, FENNELRAKE_URGENT_MESSAGE);
-    EXPECT(frame[7] >> 6, FENNELRAKE_VITAL);
-    frame[7] = 0xc0;
-    EXPECT(handed(), FENNELRAKE_REFUSED_URGENCY);
-    frame[9] = 0;
-    EXPECT(handed(), FENNELRAKE_REFUSED_URGENCY);
-    frame[7] = 0x80;
+    EXPECT(fed(kind, 1, 0, 0, 0, 3), FENNELRAKE_ACCEPTED);
+    EXPECT(frame[0] >> 4, kind);
+    EXPECT(handed(), FENNELRAKE_REFUSED_SERIAL);
+    /* the last bit of the time, of the second term and of the first count, each of which is 1 */
+    turn(35);
+    EXPECT(handed(), FENNELRAKE_REFUSED_TIME);
+    turn(first + 27);
+    EXPECT(handed(), FENNELRAKE_REFUSED_ORDER);
+    turn(first + 17);
     EXPECT(handed(), FENNELRAKE_REFUSED_VALUE);
+    if (kind != FENNELRAKE_MESSAGE) {
+        EXPECT(frame[7] >> 6, FENNELRAKE_VITAL);
+        turn(57);
+        EXPECT(handed(), FENNELRAKE_REFUSED_URGENCY);
+    }
+    /* the first bit after the pairs; a byte less; and the first bit of the kind, which makes it 9, 14 or 15 */
+    turn(first + 54);
+    EXPECT(handed(), FENNELRAKE_REFUSED_FILL);
+    frame_length--;
+    EXPECT(handed(), FENNELRAKE_REFUSED_LENGTH);
+    turn(0);
+    EXPECT(handed(), FENNELRAKE_REFUSED_KIND);
+    frame_length = 4;
+    EXPECT(handed(), FENNELRAKE_REFUSED_SHORT);
+}
+
+/* The writer on a kind of message, which has up to `most` pairs and is then of `longest` bytes. */
+static void message_fields(uint32_t kind, uint32_t most, size_t longest)
+{
+    EXPECT(written(kind, 0, FENNELRAKE_SERIALS, 0, 0, 1), FENNELRAKE_REFUSED_VALUE);
+    EXPECT(written(kind, 0, 0, 0, 0, 0), FENNELRAKE_REFUSED_VALUE);
+    EXPECT(written(kind, 0, 0, 0, 0, most + 1), FENNELRAKE_REFUSED_VALUE);
+    EXPECT(written(kind, UINT32_MAX, FENNELRAKE_SERIALS - 1, 0, 0, most), FENNELRAKE_ACCEPTED);
+    EXPECT(frame_length, longest);
 }
 
 static void writing(void)
@@ -181,19 +213,14 @@ static void writing(void)
 
     EXPECT(written(0, 0, 0, 0, 0, 0), FENNELRAKE_REFUSED_KIND);
     urgency = FENNELRAKE_VITAL + 1;
-    EXPECT(written(FENNELRAKE_URGENT_MESSAGE + 1, 0, FENNELRAKE_SERIALS, 0, 0, 0), FENNELRAKE_REFUSED_KIND);
+    EXPECT(written(FENNELRAKE_LONG_MESSAGE + 1, 0, FENNELRAKE_SERIALS, 0, 0, 0), FENNELRAKE_REFUSED_KIND);
+    EXPECT(written(FENNELRAKE_LONG_MESSAGE, 0, FENNELRAKE_SERIALS, 0, 0, 0), FENNELRAKE_REFUSED_URGENCY);
     EXPECT(written(FENNELRAKE_URGENT_MESSAGE, 0, FENNELRAKE_SERIALS, 0, 0, 0), FENNELRAKE_REFUSED_URGENCY);
     urgency = FENNELRAKE_VITAL;
-    EXPECT(written(FENNELRAKE_URGENT_MESSAGE, 0, FENNELRAKE_SERIALS, 0, 0, 1), FENNELRAKE_REFUSED_VALUE);
-    EXPECT(written(FENNELRAKE_URGENT_MESSAGE, 0, 0, 0, 0, FENNELRAKE_MOST_PAIRS + 1), FENNELRAKE_REFUSED_VALUE);
-    EXPECT(written(FENNELRAKE_URGENT_MESSAGE, UINT32_MAX, FENNELRAKE_SERIALS - 1, 0, 0, FENNELRAKE_MOST_PAIRS), FENNELRAKE_ACCEPTED);
-    EXPECT(frame_length, FENNELRAKE_LONGEST_FRAME);
+    message_fields(FENNELRAKE_LONG_MESSAGE, FENNELRAKE_MOST_PAIRS, FENNELRAKE_LONGEST_FRAME);
+    message_fields(FENNELRAKE_URGENT_MESSAGE, FENNELRAKE_MOST_SHORT_PAIRS, 44);
     urgency = UINT32_MAX;
-    EXPECT(written(FENNELRAKE_MESSAGE, 0, FENNELRAKE_SERIALS, 0, 0, 1), FENNELRAKE_REFUSED_VALUE);
-    EXPECT(written(FENNELRAKE_MESSAGE, 0, 0, 0, 0, 0), FENNELRAKE_REFUSED_VALUE);
-    EXPECT(written(FENNELRAKE_MESSAGE, 0, 0, 0, 0, FENNELRAKE_MOST_PAIRS + 1), FENNELRAKE_REFUSED_VALUE);
-    EXPECT(written(FENNELRAKE_MESSAGE, UINT32_MAX, FENNELRAKE_SERIALS - 1, 0, 0, FENNELRAKE_MOST_PAIRS), FENNELRAKE_ACCEPTED);
-    EXPECT(frame_length, FENNELRAKE_LONGEST_FRAME);
+    message_fields(FENNELRAKE_MESSAGE, FENNELRAKE_MOST_SHORT_PAIRS, 44);
     EXPECT(written(FENNELRAKE_REGISTER, 0, 0, FENNELRAKE_QUERIES, 1, 1), FENNELRAKE_REFUSED_VALUE);
     EXPECT(written(FENNELRAKE_REGISTER, 0, 0, 0, 0, 1), FENNELRAKE_REFUSED_VALUE);
     EXPECT(written(FENNELRAKE_REGISTER, 0, 0, 0, FENNELRAKE_LIST_PLACES + 1, 1), FENNELRAKE_REFUSED_VALUE);
@@ -245,6 +272,41 @@ static void writing(void)
     EXPECT(untouched(frame + 5, FENNELRAKE_LONGEST_FRAME - 5), 1);
 }
 
+/* Messages alone in force: the impact of the first term and of every other, by their counts. */
+static void impacts(void)
+{
+    static const struct {
+        uint32_t kind, pairs;
+        uint8_t first, other;
+        uint32_t of_first, of_other;
+    } rows[] = {
+        {FENNELRAKE_MESSAGE, 2, 3, 4, 1200, 1600},
+        {FENNELRAKE_MESSAGE, 2, 1, 1, 1414, 1414},
+        {FENNELRAKE_MESSAGE, 2, 1, 2, 894, 1788},
+        {FENNELRAKE_LONG_MESSAGE, 1, FENNELRAKE_MOST_COUNT, 0, FENNELRAKE_TOP_IMPACT, 0},
+        {FENNELRAKE_URGENT_MESSAGE, FENNELRAKE_MOST_SHORT_PAIRS, 1, FENNELRAKE_MOST_COUNT, 2, 516},
+        {FENNELRAKE_LONG_MESSAGE, FENNELRAKE_MOST_SHORT_PAIRS + 1, 1, 1, 485, 485},
+        {FENNELRAKE_LONG_MESSAGE, FENNELRAKE_MOST_PAIRS, FENNELRAKE_MOST_COUNT, FENNELRAKE_MOST_COUNT, 353, 353},
+        {FENNELRAKE_LONG_MESSAGE, FENNELRAKE_MOST_PAIRS, 1, FENNELRAKE_MOST_COUNT, 1, 359},
+    };
+    uint32_t i, term;
+
+    EXPECT(fennelrake_start(state, FENNELRAKE_STATE_SIZE, 1, 1000), FENNELRAKE_ACCEPTED);
+    urgency = FENNELRAKE_ROUTINE;
+    for (i = 0; i < sizeof rows / sizeof rows[0]; i++) {
+        memset(amounts, rows[i].other, sizeof amounts);
+        amounts[0] = rows[i].first;
+        EXPECT(fed(rows[i].kind, 0, i, 0, 0, rows[i].pairs), FENNELRAKE_ACCEPTED);
+        for (term = 0; term < rows[i].pairs; term++) {
+            EXPECT(fennelrake_postings(state, FENNELRAKE_STATE_SIZE, term, postings, FENNELRAKE_POSTING_SIZE), 1);
+            EXPECT(fennelrake_posting_serial(postings, 0), i);
+            EXPECT(fennelrake_posting_impact(postings, 0), term == 0 ? rows[i].of_first : rows[i].of_other);
+        }
+        EXPECT(fennelrake_postings(state, FENNELRAKE_STATE_SIZE, term, NULL, 0), 0);
+    }
+    memset(amounts, 1, sizeof amounts);
+}
+
 /* As many messages as can be in force, each with a term of two bytes of its own value; a query with the longest list. */
 static void passage(void)
 {
@@ -264,6 +326,7 @@ static void passage(void)
         EXPECT(fed(FENNELRAKE_MESSAGE, 2, 1000 + i, 0, 0, 1), FENNELRAKE_ACCEPTED);
     EXPECT(fed(FENNELRAKE_MESSAGE, 2, 1000, 0, 0, 1), FENNELRAKE_REFUSED_SERIAL);
 
+    memset(postings, 0xa5, FENNELRAKE_POSTINGS_SIZE);
     found = fennelrake_postings(state, FENNELRAKE_STATE_SIZE, term, postings, FENNELRAKE_POSTINGS_SIZE - 1);
     EXPECT(fennelrake_number(found), FENNELRAKE_REFUSED_MEMORY);
     EXPECT(fennelrake_size(found), 0);
@@ -311,7 +374,7 @@ static void passage(void)
 }
 
 /* A message of each urgency, the most urgent first, and all of one score: the list keeps that order, and the postings turn it round. */
-static void urgencies(void)
+static void urgencies(uint32_t kind)
 {
     static const uint32_t grades[] = {FENNELRAKE_VITAL, FENNELRAKE_IMPORTANT, FENNELRAKE_ROUTINE};
     const uint16_t term = 7;
@@ -322,9 +385,9 @@ static void urgencies(void)
     EXPECT(fed(FENNELRAKE_REGISTER, 0, 0, 0, 3, 1), FENNELRAKE_ACCEPTED);
     for (i = 0; i < 3; i++) {
         urgency = grades[i];
-        EXPECT(fed(FENNELRAKE_URGENT_MESSAGE, 0, i, 0, 0, 1), FENNELRAKE_ACCEPTED);
+        EXPECT(fed(kind, 0, i, 0, 0, 1), FENNELRAKE_ACCEPTED);
     }
-    EXPECT(fed(FENNELRAKE_URGENT_MESSAGE, 0, 0, 0, 0, 1), FENNELRAKE_REFUSED_SERIAL);
+    EXPECT(fed(kind, 0, 0, 0, 0, 1), FENNELRAKE_REFUSED_SERIAL);
     EXPECT(fennelrake_list(state, FENNELRAKE_STATE_SIZE, 0, list, FENNELRAKE_LIST_ANSWER_SIZE), FENNELRAKE_ACCEPTED);
     EXPECT(fennelrake_list_count(list), 3);
     EXPECT(fennelrake_postings(state, FENNELRAKE_STATE_SIZE, term, postings, FENNELRAKE_POSTINGS_SIZE), 3);
@@ -348,13 +411,13 @@ static void searches(void)
         EXPECT(fed(FENNELRAKE_MESSAGE, 100, FENNELRAKE_SERIALS - 1 - i, 0, 0, i == 0 ? 2 : 1), FENNELRAKE_ACCEPTED);
     EXPECT(fed(FENNELRAKE_REGISTER, 100, 0, FENNELRAKE_QUERIES - 1, 1, 1), FENNELRAKE_ACCEPTED);
 
-    /* a time below the clock, and a number in use; term 8, of two times 707, is read first, and no message can do better than 3 times 707 */
+    /* a time below the clock, and a number in use; term 8, of two times 1414, is read first, and no message can do better than 3 times 1414 */
     amounts[1] = 2;
     EXPECT(written(FENNELRAKE_REGISTER, 0, 0, FENNELRAKE_QUERIES - 1, 1, 2), FENNELRAKE_ACCEPTED);
     EXPECT(searched(), FENNELRAKE_ACCEPTED);
     EXPECT(fennelrake_list_count(found), 1);
     EXPECT(fennelrake_list_serial(found, 0), FENNELRAKE_SERIALS - 1);
-    EXPECT(fennelrake_list_score(found, 0), 3 * 707);
+    EXPECT(fennelrake_list_score(found, 0), 3 * 1414);
     for (i = 1; i < FENNELRAKE_LIST_PLACES; i++) {
         EXPECT(fennelrake_list_serial(found, i), 0);
         EXPECT(fennelrake_list_score(found, i), 0);
@@ -388,7 +451,7 @@ static void searches(void)
         EXPECT(searched(), kind == FENNELRAKE_REGISTER ? FENNELRAKE_REFUSED_LENGTH : FENNELRAKE_REFUSED_KIND);
     }
     fennelrake_put_term(terms, 1, 9);
-    for (kind = FENNELRAKE_MESSAGE; kind <= FENNELRAKE_URGENT_MESSAGE; kind++) {
+    for (kind = FENNELRAKE_MESSAGE; kind <= FENNELRAKE_LONG_MESSAGE; kind++) {
         EXPECT(written(kind, 100, 1, 1, 1, 2), FENNELRAKE_ACCEPTED);
         EXPECT(searched(), kind == FENNELRAKE_REGISTER ? FENNELRAKE_ACCEPTED : FENNELRAKE_REFUSED_KIND);
     }
@@ -420,9 +483,14 @@ int main(void)
     starting();
     lengths();
     frames();
+    faults(FENNELRAKE_MESSAGE, 60);
+    faults(FENNELRAKE_URGENT_MESSAGE, 62);
+    faults(FENNELRAKE_LONG_MESSAGE, 63);
     writing();
+    impacts();
     passage();
-    urgencies();
+    urgencies(FENNELRAKE_URGENT_MESSAGE);
+    urgencies(FENNELRAKE_LONG_MESSAGE);
     searches();
     free(state);
     free(frame);

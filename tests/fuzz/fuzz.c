@@ -44,7 +44,7 @@ struct lent {
     size_t length;
 };
 
-static struct lent state = {7, NULL, NULL, 0};
+static struct lent state = {11, NULL, NULL, 0};
 static struct lent frame = {1, NULL, NULL, 0};
 static struct lent answer = {1, NULL, NULL, 0};
 static struct lent terms = {1, NULL, NULL, 0};
@@ -165,7 +165,7 @@ static uint32_t search(const uint8_t *bytes, size_t length, size_t room)
 
 /* ---- what the state memory keeps (docs/STATE.md) */
 
-enum { CLOCK = 2, OLDEST = 3, COUNT = 4, SLOTS = 5, SLOT = 19, PLACES = 257, RECORDS = 4888, RECORD = 60 };
+enum { CLOCK = 2, OLDEST = 3, COUNT = 4, SLOTS = 5, SLOT = 35, PLACES = 257, RECORDS = 9000, RECORD = 60 };
 enum { TIME = 0, SERIAL = 1, CELLS = 2, CELL = 3 };
 enum { K = 0, N = 1, TERM = 2, ENTRIES = 10, THRESHOLD = 11, LISTED = 19, KEY = 35, CANDIDATES = 51 };
 
@@ -253,15 +253,40 @@ static uint32_t bits(const uint8_t *bytes, size_t at, size_t width)
     return v;
 }
 
-/* Both kinds of message; where the number of pairs stands in their bits, the pairs following it. */
+/* The kinds of message that say an urgency, and all kinds of message; where the number of pairs stands in their bits, and where the pairs do. */
+static int is_graded(uint32_t kind)
+{
+    return kind == FENNELRAKE_URGENT_MESSAGE || kind == FENNELRAKE_LONG_MESSAGE;
+}
+
 static int is_message(uint32_t kind)
 {
-    return kind == FENNELRAKE_MESSAGE || kind == FENNELRAKE_URGENT_MESSAGE;
+    return kind == FENNELRAKE_MESSAGE || is_graded(kind);
 }
 
 static uint32_t size_at(uint32_t kind)
 {
-    return kind == FENNELRAKE_URGENT_MESSAGE ? 58 : 56;
+    return is_graded(kind) ? 58 : 56;
+}
+
+static uint32_t pairs_at(uint32_t kind)
+{
+    return size_at(kind) + (kind == FENNELRAKE_LONG_MESSAGE ? 5 : 4);
+}
+
+/* The most pairs of a kind, 0 where it has none. */
+static uint32_t most_pairs(uint32_t kind)
+{
+    if (kind == FENNELRAKE_REGISTER)
+        return FENNELRAKE_MOST_QUERY_TERMS;
+    return kind == FENNELRAKE_LONG_MESSAGE ? FENNELRAKE_MOST_PAIRS : is_message(kind) ? FENNELRAKE_MOST_SHORT_PAIRS : 0;
+}
+
+/* How many pairs a message has by its bits. */
+static uint32_t pairs_of(const uint8_t *f)
+{
+    uint32_t at = size_at(f[0] >> 4);
+    return bits(f, at, pairs_at(f[0] >> 4) - at) + 1;
 }
 
 /* How many of the messages before the frame are past at its time: they are the oldest. */
@@ -316,16 +341,16 @@ static uint32_t check_window(const uint8_t *s, const uint8_t *f, uint32_t depart
             HOLD(cancelled(message(s, i)) || word(message(s, i), SERIAL) != word(message(s, j), SERIAL));
     if (arrived) {
         const uint8_t *m = message(s, count - 1);
-        uint32_t at = size_at(kind), first = at + 4;
+        uint32_t first = pairs_at(kind);
         uint64_t n = 0, top, w;
-        HOLD(word(m, TIME) == time && word(m, SERIAL) == bits(f, 36, 20) && cells(m) == bits(f, at, 4) + 1 && grade(m) == bits(f, 56, at - 56));
+        HOLD(word(m, TIME) == time && word(m, SERIAL) == bits(f, 36, 20) && cells(m) == pairs_of(f) && grade(m) == bits(f, 56, size_at(kind) - 56));
         for (i = 0; i < cells(m); i++)
             n += (uint64_t)bits(f, first + 18 * i + 10, 8) * bits(f, first + 18 * i + 10, 8);
         for (i = 0; i < cells(m); i++) {
             HOLD(word(m, CELL + i) >> 14 == bits(f, first + 18 * i, 18));
             w = word(m, CELL + i) & 16383;
-            top = UINT64_C(1000) * bits(f, first + 18 * i + 10, 8);
-            HOLD(w * w * n <= top * top && (w + 1) * (w + 1) * n > top * top);
+            top = (uint64_t)FENNELRAKE_TOP_IMPACT * bits(f, first + 18 * i + 10, 8);
+            HOLD(w > 0 && w * w * n <= top * top && (w + 1) * (w + 1) * n > top * top);
         }
     }
     return left;
@@ -563,15 +588,15 @@ static void check_searches(const uint8_t *s, const uint8_t *f, size_t length, ui
 /* The writer makes the same bytes of the frame's fields, into exactly as many, whatever they held. */
 static void check_writer(const uint8_t *f, size_t length)
 {
-    uint32_t kind = f[0] >> 4, time = bits(f, 4, 32), pairs = 0, width = 8, first = size_at(kind) + 4, i, k = 0, number = 0, serial = 0, urgency = 0;
+    uint32_t kind = f[0] >> 4, time = bits(f, 4, 32), pairs = 0, width = 8, first = pairs_at(kind), i, k = 0, number = 0, serial = 0, urgency = 0;
     uint64_t r;
 
     if (is_message(kind) || kind == FENNELRAKE_CANCEL)
         serial = bits(f, 36, 20);
-    if (kind == FENNELRAKE_URGENT_MESSAGE)
+    if (is_graded(kind))
         urgency = bits(f, 56, 2);
     if (is_message(kind)) {
-        pairs = bits(f, size_at(kind), 4) + 1;
+        pairs = pairs_of(f);
     } else if (kind == FENNELRAKE_REGISTER) {
         k = bits(f, 41, 4) + 1;
         pairs = bits(f, 45, 3) + 1;
@@ -606,14 +631,14 @@ static void check_any_fields(const uint8_t *f, size_t length)
 
     if (n == 0)
         return;
-    kind = f[0] % 8;
+    kind = f[0] % 9;
     time = fennelrake_word(f + 4);
     serial = fennelrake_word(f) >> (f[8] % 32);
     urgency = f[8] / 40;
     number = f[8] % 40;
     k = f[9] % 20;
-    pairs = f[10] % 20;
-    room = f[11] % 48;
+    pairs = f[10] % 36;
+    room = f[11] % 84;
     lend(&terms, 2 * n, 0);
     lend(&amounts, n, 0);
     memcpy(terms.bytes, f + 12, 2 * n);
@@ -627,27 +652,29 @@ static void check_any_fields(const uint8_t *f, size_t length)
     guarded(&amounts);
     found = fennelrake_number(r);
     size = fennelrake_size(r);
-    seen(8, found * 8 + kind);
+    seen(8, found * 9 + kind);
     HOLD(found == 0 || ((found == 2 || found == 14 || found == 5 || found == 6 || found == 12) && size == 0));
-    HOLD((found == FENNELRAKE_REFUSED_KIND) == (kind < FENNELRAKE_MESSAGE || kind > FENNELRAKE_URGENT_MESSAGE));
-    HOLD((found == FENNELRAKE_REFUSED_URGENCY) == (kind == FENNELRAKE_URGENT_MESSAGE && urgency > FENNELRAKE_VITAL));
+    HOLD((found == FENNELRAKE_REFUSED_KIND) == (kind < FENNELRAKE_MESSAGE || kind > FENNELRAKE_LONG_MESSAGE));
+    HOLD((found == FENNELRAKE_REFUSED_URGENCY) == (is_graded(kind) && urgency > FENNELRAKE_VITAL));
+    if (found != FENNELRAKE_REFUSED_URGENCY && most_pairs(kind) > 0 && (pairs == 0 || pairs > most_pairs(kind) || pairs > n))
+        HOLD(found == FENNELRAKE_REFUSED_VALUE);
     HOLD(size <= room && all_of(answer.bytes + size, room - size, FRESH));
     if (found != 0)
         return;
     HOLD(bits(answer.bytes, 0, 4) == kind && bits(answer.bytes, 4, 32) == time);
     if (is_message(kind) || kind == FENNELRAKE_CANCEL)
         HOLD(bits(answer.bytes, 36, 20) == serial);
-    if (kind == FENNELRAKE_URGENT_MESSAGE)
+    if (is_graded(kind))
         HOLD(bits(answer.bytes, 56, 2) == urgency);
     if (is_message(kind))
-        HOLD(bits(answer.bytes, size_at(kind), 4) + 1 == pairs);
+        HOLD(pairs_of(answer.bytes) == pairs);
     if (kind == FENNELRAKE_REGISTER)
         HOLD(bits(answer.bytes, 41, 4) + 1 == k && bits(answer.bytes, 45, 3) + 1 == pairs);
     if (kind == FENNELRAKE_REGISTER || kind == FENNELRAKE_DROP)
         HOLD(bits(answer.bytes, 36, 5) == number);
-    for (i = 0; i < pairs && (is_message(kind) || kind == FENNELRAKE_REGISTER); i++) {
-        size_t at = is_message(kind) ? size_at(kind) + 4 + 18 * i : 48 + 14 * i;
-        HOLD(i < n && bits(answer.bytes, at, 10) == terms.bytes[2 * i] * 256u + terms.bytes[2 * i + 1]);
+    for (i = 0; i < pairs && most_pairs(kind) > 0; i++) {
+        size_t at = is_message(kind) ? pairs_at(kind) + 18 * i : 48 + 14 * i;
+        HOLD(bits(answer.bytes, at, 10) == terms.bytes[2 * i] * 256u + terms.bytes[2 * i + 1]);
         HOLD(bits(answer.bytes, at + 10, is_message(kind) ? 8 : 4) == amounts.bytes[i]);
     }
 }
@@ -672,10 +699,10 @@ static uint32_t checked_frame(const uint8_t *f, size_t length)
     number = hand(f, length, FENNELRAKE_FRAME_ANSWER_SIZE);
     HOLD(number <= FENNELRAKE_REFUSED_NOT_IN_USE || number == FENNELRAKE_REFUSED_NOT_IN_FORCE || number == FENNELRAKE_REFUSED_URGENCY);
     HOLD((number == FENNELRAKE_REFUSED_SHORT) == (length < 5));
-    HOLD(length < 5 || (number == FENNELRAKE_REFUSED_KIND) == (kind < FENNELRAKE_MESSAGE || kind > FENNELRAKE_URGENT_MESSAGE));
+    HOLD(length < 5 || (number == FENNELRAKE_REFUSED_KIND) == (kind < FENNELRAKE_MESSAGE || kind > FENNELRAKE_LONG_MESSAGE));
     /* a frame that 1 to 4 let pass is whole: its urgency is one of the three, or is what refuses it */
     if (number == 0 || number > FENNELRAKE_REFUSED_FILL)
-        HOLD((number == FENNELRAKE_REFUSED_URGENCY) == (kind == FENNELRAKE_URGENT_MESSAGE && bits(f, 56, 2) > FENNELRAKE_VITAL));
+        HOLD((number == FENNELRAKE_REFUSED_URGENCY) == (is_graded(kind) && bits(f, 56, 2) > FENNELRAKE_VITAL));
     if (number == FENNELRAKE_REFUSED_SERIAL)
         HOLD(is_message(kind) && bits(f, 4, 32) >= word(old, CLOCK) && holder(f) < word(old, COUNT));
     if (number == FENNELRAKE_REFUSED_NOT_IN_FORCE)
@@ -768,8 +795,8 @@ void passage(const uint8_t *data, size_t size)
  */
 static void damage(int steering, const uint8_t *how)
 {
-    static const uint32_t values[] = {0, 1, 8, 9, 15, 16, 17, 64, 80, 145, 192, 209, 255, 256, 257, 1000, 65535, 0xfffff, 0x100000, 0x1000000,
-                                      0x1100000, 0x7fffffff, 0x80000000, 0xfffffffe, 0xffffffff};
+    static const uint32_t values[] = {0, 1, 8, 9, 15, 16, 17, 32, 33, 64, 96, 161, 192, 225, 255, 256, 257, FENNELRAKE_TOP_IMPACT, 65535, 0xfffff,
+                                      0x100000, 0x2000000, 0x2100000, 0x7fffffff, 0x80000000, 0xfffffffe, 0xffffffff};
     uint32_t i = (how[0] * 256u + how[1]) % (FENNELRAKE_STATE_SIZE / 4), value = values[how[2] % (sizeof values / sizeof values[0])];
 
     if (steering && how[0] < 64)

@@ -40,21 +40,54 @@ static int alike; /* whether messages and queries have one and the same term, so
 static int once;  /* whether all counts and weights are 1, so that terms of a search have equal postings to read next */
 
 /*
+ * What is no frame at all still serves as fields for the writer. Half of them are in range, with more terms and amounts than any kind takes, but for
+ * the kind in byte 0 and the number of pairs in byte 10; byte 8 shifts the serial into its range.
+ */
+static void put_fields(void)
+{
+    uint32_t any = below(2) == 0, length = any ? 12 + below(40) : 120, i;
+
+    put(length);
+    for (i = 0; i < length; i++) {
+        if (any)
+            put(below(3) == 0 ? below(256) : i < 8 ? below(4) : i % 3);
+        else
+            put(i == 0 || i == 10 ? below(256) : i == 8 ? 12 : 1 + below(3));
+    }
+}
+
+/* Makes some bits of a frame 0. */
+static void clear(uint8_t *frame, uint32_t at, uint32_t width)
+{
+    for (; width > 0; at++, width--)
+        frame[at / 8] &= (uint8_t)~(0x80 >> at % 8);
+}
+
+/*
  * A frame after its length: few terms, serials and queries, so that much is shared; one in eight is damaged. As many cancel a message as send one,
- * mostly one of the last; some send one of these serials again. Half of the messages say an urgency, and a few of them one that there isn't, be the
- * first count 0 or not. A few registrations have a weight of 0, be there a bit in the fill or terms that don't rise or not.
+ * mostly one of the last; some send one of these serials again. Two in three messages say an urgency, and a few of them one that there isn't, be the
+ * first count 0 or not. A third of the messages have terms side by side, half of these as many as their kind can; in a fourth most counts are as high
+ * as can be. A few registrations have a weight of 0, be there a bit in the fill or terms that don't rise or not.
  */
 static void put_frame(uint32_t *clock, uint32_t life)
 {
+    static const uint32_t kinds[] = {FENNELRAKE_MESSAGE, FENNELRAKE_URGENT_MESSAGE, FENNELRAKE_LONG_MESSAGE};
     uint8_t terms[2 * FENNELRAKE_MOST_PAIRS], amounts[FENNELRAKE_MOST_PAIRS], frame[FENNELRAKE_LONGEST_FRAME + 1] = {0};
-    uint32_t kind = below(13), time, serial, number, k, most, pairs = 0, apart = below(4) == 0 ? 120 : 6, term, length, i;
-    int is_message = kind > 2 && kind < 8;
+    uint32_t kind = below(13), apart = below(4) == 0 ? 120 : 6, reach = 3 * apart, most = FENNELRAKE_MOST_QUERY_TERMS, pairs = 0, term, length, i;
+    uint32_t time, serial, number, k;
+    int is_message = kind > 2 && kind < 8, high = is_message && below(4) == 0;
 
-    kind = kind > 7 ? FENNELRAKE_CANCEL : !is_message ? kind + 2 : below(2) == 0 ? FENNELRAKE_MESSAGE : FENNELRAKE_URGENT_MESSAGE;
-    most = is_message ? FENNELRAKE_MOST_PAIRS : FENNELRAKE_MOST_QUERY_TERMS;
-    for (term = below(apart); pairs < most && term < 3 * apart; term += 1 + below(apart)) {
-        fennelrake_put_term(terms, pairs, (uint16_t)(term < 3 * apart - 1 ? term : FENNELRAKE_TERMS - 1));
-        amounts[pairs++] = (uint8_t)(once ? 1 : 1 + (below(16) == 0 && is_message ? below(255) : below(4)));
+    kind = kind > 7 ? FENNELRAKE_CANCEL : is_message ? kinds[below(3)] : kind + 2;
+    if (is_message)
+        most = kind == FENNELRAKE_LONG_MESSAGE ? FENNELRAKE_MOST_PAIRS : FENNELRAKE_MOST_SHORT_PAIRS;
+    if (is_message && below(3) == 0) {
+        most -= below(2) * below(16);
+        reach = most;
+        apart = 1;
+    }
+    for (term = below(apart); pairs < most && term < reach; term += 1 + below(apart)) {
+        fennelrake_put_term(terms, pairs, (uint16_t)(term < reach - 1 ? term : FENNELRAKE_TERMS - 1));
+        amounts[pairs++] = (uint8_t)(once ? 1 : high && below(8) > 0 ? 255 : 1 + (below(16) == 0 && is_message ? below(255) : below(4)));
     }
     if (alike) {
         fennelrake_put_term(terms, 0, 0);
@@ -71,13 +104,13 @@ static void put_frame(uint32_t *clock, uint32_t life)
     k = 1 + below(below(3) == 0 ? FENNELRAKE_LIST_PLACES : 3);
     length = fennelrake_size(
         fennelrake_write(kind, time, serial, below(3), number, k, pairs, terms, 2 * pairs, amounts, pairs, frame, FENNELRAKE_LONGEST_FRAME));
-    if (kind == FENNELRAKE_URGENT_MESSAGE && below(16) == 0) {
+    if ((kind == FENNELRAKE_URGENT_MESSAGE || kind == FENNELRAKE_LONG_MESSAGE) && below(16) == 0) {
         frame[7] |= 0xc0;
-        frame[9] = (uint8_t)(frame[9] * below(2));
+        clear(frame, kind == FENNELRAKE_LONG_MESSAGE ? 73 : 72, 8 * below(2)); /* the first count */
     }
-    /* the first pair of a registration: its term's bits begin with byte 6, and its weight stands in byte 7 */
+    /* the first pair of a registration: its term's bits begin with byte 6 */
     if (kind == FENNELRAKE_REGISTER && below(8) == 0) {
-        frame[7] &= 0xc3;
+        clear(frame, 58, 4);
         frame[6] |= (uint8_t)(below(2) * 0xff);
         frame[length - 1] |= (uint8_t)below(2);
     }
@@ -90,12 +123,8 @@ static void put_frame(uint32_t *clock, uint32_t life)
     put(length);
     for (i = 0; i < length; i++)
         put(frame[i]);
-    /* what is no frame at all still serves as fields for the writer */
-    if (below(16) == 0) {
-        put(length = 12 + below(40));
-        for (i = 0; i < length; i++)
-            put(below(3) == 0 ? below(256) : i < 8 ? below(4) : i % 3);
-    }
+    if (below(16) == 0)
+        put_fields();
 }
 
 static void make_passage(uint32_t most)
