@@ -191,8 +191,8 @@ fn join(
     serial: u32,
     urgency: u32,
     m: usize,
-    terms: [u32; MOST_PAIRS],
-    counts: [u32; MOST_PAIRS],
+    terms: [u16; MOST_PAIRS],
+    counts: [u8; MOST_PAIRS],
 ) -> Reply
     requires { ⌜ (length (now state) ≡ stateLength) × (urgency ≤ level vital) × (m ≤ mostPairs) ⌝ }
     requires { ⌜ ((i : ℕ) → i < m → (getD terms i 0 < 2 ^ termWidth) × (getD counts i 0 < 2 ^ countWidth)) ⌝ }
@@ -232,8 +232,8 @@ fn message(
     serial: u32,
     urgency: u32,
     m: usize,
-    terms: [u32; MOST_PAIRS],
-    counts: [u32; MOST_PAIRS],
+    terms: [u16; MOST_PAIRS],
+    counts: [u8; MOST_PAIRS],
 ) -> Reply
     requires { ⌜ (length (now state) ≡ stateLength) × (urgency ≤ level vital) ⌝ }
     requires { ⌜ (1 ≤ m) × (m ≤ mostPairs) ⌝ }
@@ -388,14 +388,24 @@ fn cancel(state: &mut [u8], time: u32, serial: u32) -> Reply
     }
 }
 
-// The first eight of a frame's terms or amounts: a query has no more.
-fn first_eight(a: [u32; MOST_PAIRS]) -> [u32; 8]
-    ensures { λ r. ⌜ r ≡ take 8 a ⌝ }
+// The terms and weights of a query.
+struct Weighted {
+    terms: [u32; 8],
+    weights: [u32; 8],
+}
+
+// The first eight of a frame's pairs: a query has no more.
+fn first_eight(terms: [u16; MOST_PAIRS], weights: [u8; MOST_PAIRS]) -> Weighted
+    ensures { λ r. ⌜ (r .terms ≡ take 8 terms) × (r .weights ≡ take 8 weights) ⌝ }
 {
-    let mut few = [0u32; 8];
+    let mut few = Weighted {
+        terms: [0u32; 8],
+        weights: [0u32; 8],
+    };
     let mut i: usize = 0;
     while i < 8 {
-        few[i] = a[i];
+        few.terms[i] = terms[i] as u32;
+        few.weights[i] = weights[i] as u32;
         i += 1;
     }
     few
@@ -426,9 +436,10 @@ pub fn frame(state: &mut [u8], bytes: &[u8]) -> Reply
             k,
             terms: n,
         } => {
-            let few = first_eight(terms);
-            let weights = first_eight(amounts);
-            register(state, time, number as usize, k, n, few, weights)
+            let few = first_eight(terms, amounts);
+            let terms = few.terms;
+            let weights = few.weights;
+            register(state, time, number as usize, k, n, terms, weights)
         }
         Kind::Unregister { time, number } => unregister(state, time, number as usize),
         Kind::Cancel { time, serial } => cancel(state, time, serial),
@@ -520,11 +531,14 @@ pub fn search(state: &[u8], bytes: &[u8]) -> Searched
     }
     let terms = asked.terms;
     let weights = asked.weights;
+    let few = first_eight(terms, weights);
+    let terms = few.terms;
+    let weights = few.weights;
     let query = Query {
         k: asked.k as usize,
         n: asked.n,
-        terms: first_eight(terms),
-        weights: first_eight(weights),
+        terms,
+        weights,
     };
     let cursor = Cursor::load(state);
     let oldest = cursor.oldest;

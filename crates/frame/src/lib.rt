@@ -7,7 +7,7 @@ ghost use mathlib.Core.Bool.{cond};
 ghost use mathlib.Core.List.{List, _∷_};
 ghost use Rattle.wire.specs.Bits.{unpack};
 ghost use Rattle.wire.specs.Field.{field, placed, total, spell, scan};
-ghost use Rattle.paper.specs.Frame.{shape, shapeOfKind, rowOf, gradesKnown, kindWidth, mostPairs, written, bytesFor, fillAfter};
+ghost use Rattle.paper.specs.Frame.{shape, shapeOfKind, rowOf, gradesKnown, kindWidth, countWidth, mostPairs, written, bytesFor, fillAfter};
 ghost use Rattle.paper.specs.Frame.Shape.{refused};
 ghost use Rattle.paper.specs.Write.{fromFields, side-by-side};
 ghost use Rattle.paper.specs.Search.{asked};
@@ -46,18 +46,19 @@ pub enum Kind {
     Refused(u32),
 }
 
-// The places of both arrays past the frame's pairs are 0.
+// The places of both arrays past the frame's pairs are 0. They are as narrow as their fields allow, since every frame pays for moving them, however few
+// its pairs are.
 pub struct Parsed {
     pub what: Kind,
-    pub terms: [u32; MOST_PAIRS],
-    pub amounts: [u32; MOST_PAIRS],
+    pub terms: [u16; MOST_PAIRS],
+    pub amounts: [u8; MOST_PAIRS],
 }
 
 // A frame's pairs; where they are refused, number says by what, and else is 0.
 struct PairList {
     number: u32,
-    terms: [u32; MOST_PAIRS],
-    amounts: [u32; MOST_PAIRS],
+    terms: [u16; MOST_PAIRS],
+    amounts: [u8; MOST_PAIRS],
 }
 
 // A kind's row of the table: the widths of its fields after the kind, in the first places of an array, and of a count or weight, which is 0 where the
@@ -157,11 +158,11 @@ fn low_bits(both: u32, width: usize) -> u32
 // The m pairs from bit `at`, whose counts or weights have `width` bits.
 fn take_pairs(bytes: &[u8], at: usize, width: usize, m: usize) -> PairList
     requires { ⌜ at + m * (10 + width) ≤ 8 * length (now bytes) ⌝ }
-    requires { ⌜ (at + m * (10 + width) ≤ 1024) × (m ≤ mostPairs) × (width ≤ 22) ⌝ }
+    requires { ⌜ (at + m * (10 + width) ≤ 1024) × (m ≤ mostPairs) × (width ≤ countWidth) ⌝ }
     ensures { λ r. ⌜ PairsPost (now (bytes .entry)) at width m r ⌝ }
 {
-    let mut terms = [0u32; MOST_PAIRS];
-    let mut amounts = [0u32; MOST_PAIRS];
+    let mut terms = [0u16; MOST_PAIRS];
+    let mut amounts = [0u8; MOST_PAIRS];
     let mut number = 0;
     let mut least = 0;
     let mut next = at;
@@ -170,8 +171,8 @@ fn take_pairs(bytes: &[u8], at: usize, width: usize, m: usize) -> PairList
         let both = wire::take_bits(bytes, next, 10 + width);
         let term = high_bits(both, width);
         let amount = low_bits(both, width);
-        terms[i] = term;
-        amounts[i] = amount;
+        terms[i] = term as u16;
+        amounts[i] = amount as u8;
         number = judge(number, 0 < amount, least, term);
         least = term + 1;
         next += 10 + width;
@@ -196,15 +197,15 @@ fn grade_first(known: bool, number: u32) -> u32
 
 // The m pairs after a head of so many bits, whose grade is known or not, where nothing of 3, 4, 14, 5 and 6 refuses them.
 fn checked_pairs(bytes: &[u8], head: usize, width: usize, m: usize, known: bool) -> PairList
-    requires { ⌜ (head + m * (10 + width) ≤ 1024) × (m ≤ mostPairs) × (width ≤ 22) ⌝ }
+    requires { ⌜ (head + m * (10 + width) ≤ 1024) × (m ≤ mostPairs) × (width ≤ countWidth) ⌝ }
     ensures { λ r. ⌜ CheckedPost (now (bytes .entry)) head width m known r ⌝ }
 {
     let number = misfit(bytes, head + m * (10 + width));
     if number != 0 {
         return PairList {
             number,
-            terms: [0u32; MOST_PAIRS],
-            amounts: [0u32; MOST_PAIRS],
+            terms: [0u16; MOST_PAIRS],
+            amounts: [0u8; MOST_PAIRS],
         };
     }
     let mut p = take_pairs(bytes, head, width, m);
@@ -217,8 +218,8 @@ fn refusal(number: u32) -> Parsed
 {
     Parsed {
         what: Kind::Refused(number),
-        terms: [0u32; MOST_PAIRS],
-        amounts: [0u32; MOST_PAIRS],
+        terms: [0u16; MOST_PAIRS],
+        amounts: [0u8; MOST_PAIRS],
     }
 }
 
@@ -349,8 +350,8 @@ pub struct Asked {
     pub number: u32,
     pub k: u32,
     pub n: usize,
-    pub terms: [u32; MOST_PAIRS],
-    pub weights: [u32; MOST_PAIRS],
+    pub terms: [u16; MOST_PAIRS],
+    pub weights: [u8; MOST_PAIRS],
 }
 
 fn not_asked(number: u32) -> Asked
@@ -360,8 +361,8 @@ fn not_asked(number: u32) -> Asked
         number,
         k: 0,
         n: 0,
-        terms: [0u32; MOST_PAIRS],
-        weights: [0u32; MOST_PAIRS],
+        terms: [0u16; MOST_PAIRS],
+        weights: [0u8; MOST_PAIRS],
     }
 }
 

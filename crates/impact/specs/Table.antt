@@ -21,7 +21,7 @@ pub record GreatestPlace (f n w : ℕ) : Type 0 where
 
 -- a place is divided into so many parts, and the whole scale into so many
 abbrev pub fine : ℕ
-fine = 5040
+fine = 720720
 
 abbrev pub reach : ℕ
 reach = fine * top

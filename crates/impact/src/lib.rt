@@ -5,7 +5,7 @@ ghost use lib.ListN.{getD};
 ghost use Rattle.paper.specs.Frame.{termWidth, countWidth, mostPairs};
 ghost use Rattle.paper.specs.Impact.{top, impact};
 ghost use Rattle.impact.specs.Cell.{impactWidth, packed, squaresOf};
-ghost use Rattle.impact.specs.Table.{squareTable, reach};
+ghost use Rattle.impact.specs.Table.{squareTable, fine, reach};
 
 mod squares;
 
@@ -25,9 +25,9 @@ impl Impact {
         requires { ⌜ count < 2 ^ countWidth ⌝ }
         ensures { λ r. ⌜ r .value ≡ impact count squares ⌝ }
     {
-        let parts = count * unit(greater(squares, 1));
-        let low = lesser(parts / FINE, Impact::TOP);
-        let high = lesser((parts + count) / FINE, Impact::TOP);
+        let parts = count as u64 * unit(greater(squares, 1));
+        let low = place_of(parts);
+        let high = place_of(parts + count as u64);
         // Every place meets the rule where no squares are. The unit is found before this is asked, so that it depends on no branch.
         if squares == 0 {
             return Impact { value: Impact::TOP };
@@ -42,15 +42,21 @@ impl Impact {
     }
 }
 
-// The parts of a place, and those of the whole scale. Every count up to 10 divides both, so that alone in a message such a count leaves one place.
-const FINE: u32 = 5040;
+// The parts of a place, and those of the whole scale. Every count up to 16 divides both, so that alone in a message such a count leaves one place; and
+// they are so fine that a message rarely has a count that leaves two.
+const FINE: u64 = 720720;
 
-const REACH: u64 = (FINE as u64) * (Impact::TOP as u64);
+const REACH: u64 = FINE * (Impact::TOP as u64);
 
-fn lesser(a: u32, b: u32) -> u32
-    ensures { λ r. ⌜ r ≡ min a b ⌝ }
+// The place that so many parts reach, at most the top.
+fn place_of(parts: u64) -> u32
+    ensures { λ r. ⌜ r ≡ min (parts / fine) top ⌝ }
 {
-    if a < b { a } else { b }
+    let place = parts / FINE;
+    if place < Impact::TOP as u64 {
+        return place as u32;
+    }
+    Impact::TOP
 }
 
 fn greater(a: u32, b: u32) -> u32
@@ -70,7 +76,7 @@ fn closer(most: u64, guess: u64) -> u64
 
 // The impact of a count of 1 where the squares sum to n, in fine parts and cut. From this start four steps are nearly always enough; they stand before
 // the loop so that the compiler takes them once for all counts of a message.
-fn unit(n: u32) -> u32
+fn unit(n: u32) -> u64
     requires { ⌜ 0 < n ⌝ }
     ensures { λ r. ⌜ (r * r * n ≤ reach * reach) × (reach * reach < (r + 1) * (r + 1) * n) ⌝ }
 {
@@ -80,7 +86,7 @@ fn unit(n: u32) -> u32
     while most < guess * guess {
         guess = closer(most, guess);
     }
-    guess as u32
+    guess
 }
 
 // What the square of an impact is at most.
@@ -132,14 +138,14 @@ pub fn cell(term: u32, count: u32, impact: u32) -> u32
 }
 
 // The sum of the first m counts squared.
-pub fn squared(counts: [u32; paper::MOST_PAIRS], m: usize) -> u32
+pub fn squared(counts: [u8; paper::MOST_PAIRS], m: usize) -> u32
     requires { ⌜ (m ≤ mostPairs) × ((i : ℕ) → i < m → getD counts i 0 < 2 ^ countWidth) ⌝ }
     ensures { λ r. ⌜ r ≡ squaresOf m counts ⌝ }
 {
     let mut sum: u32 = 0;
     let mut i: usize = 0;
     while i < m {
-        let f = counts[i];
+        let f = counts[i] as u32;
         sum += f * f;
         i += 1;
     }

@@ -324,8 +324,8 @@ fn put_cells(
     state: &mut [u8],
     at: usize,
     m: usize,
-    terms: [u32; MOST_PAIRS],
-    counts: [u32; MOST_PAIRS],
+    terms: [u16; MOST_PAIRS],
+    counts: [u8; MOST_PAIRS],
 )
     requires { ⌜ (length (now state) ≡ stateLength) × (at + m ≤ stateWords) × (m ≤ mostPairs) ⌝ }
     requires { ⌜ ((i : ℕ) → i < m → (getD terms i 0 < 2 ^ termWidth) × (getD counts i 0 < 2 ^ countWidth)) ⌝ }
@@ -334,8 +334,8 @@ fn put_cells(
     let squares = impact::squared(counts, m);
     let mut i: usize = 0;
     while i < m {
-        let term = terms[i];
-        let count = counts[i];
+        let term = terms[i] as u32;
+        let count = counts[i] as u32;
         let impact = Impact::of(count, squares);
         let cell = impact::cell(term, count, impact.value);
         memory::put(state, at + i, cell);
@@ -351,8 +351,8 @@ pub fn put_message(
     serial: u32,
     urgency: u32,
     m: usize,
-    terms: [u32; MOST_PAIRS],
-    counts: [u32; MOST_PAIRS],
+    terms: [u16; MOST_PAIRS],
+    counts: [u8; MOST_PAIRS],
 )
     requires { ⌜ (length (now state) ≡ stateLength) × (j < slots) × (urgency ≤ level vital) × (m ≤ mostPairs) ⌝ }
     requires { ⌜ ((i : ℕ) → i < m → (getD terms i 0 < 2 ^ termWidth) × (getD counts i 0 < 2 ^ countWidth)) ⌝ }

@@ -10,21 +10,28 @@ use Rattle.engine.proofs.first_eight.Statement.{statement}
 use Rattle.engine.proofs.first_eight.Tie as tie
 
 abbrev Inv-loop : tie.InvT-loop
-Inv-loop a few₀ i₀ few i = (i ≤ 8) × (length few ≡ 8) × (take i few ≡ take i a)
+Inv-loop terms weights few₀ i₀ few i =
+    (i ≤ 8) × (length (few .terms) ≡ 8) × (length (few .weights) ≡ 8) × (take i (few .terms) ≡ take i terms) × (take i (few .weights) ≡ take i weights)
 
 abbrev μ-loop : tie.MeasureT-loop
-μ-loop a few₀ i₀ few i = 8 - i
+μ-loop terms weights few₀ i₀ few i = 8 - i
 
 loop-again : tie.Need-loop-again Inv-loop μ-loop
 loop-again c =
     let l = c .before .loop in
-    (omega arith, simp length-set (l .inv .1), copy-more (l .few) _ (l .i) (omega arith) (search needs) (l .inv .2))
+    let inv = l .inv in (
+      omega arith,
+      simp length-set (inv .1),
+      simp length-set (inv .2),
+      copy-more (l .few .terms) _ (l .i) (omega arith) (search needs) (inv .3),
+      copy-more (l .few .weights) _ (l .i) (omega arith) (search needs) (inv .4),
+    )
 
 returns : tie.Need-returns Inv-loop μ-loop
 returns c =
     let l = c .before .loop in
     let e : l .i ≡ 8 = omega arith in
-    sym (take-all 8 (l .few) (omega arith)) ∙ (rw e at (l .inv .2))
+    (sym (take-all 8 (l .few .terms) (omega arith)) ∙ (rw e at (l .inv .3)), sym (take-all 8 (l .few .weights) (omega arith)) ∙ (rw e at (l .inv .4)))
 
 pub first-eight-spec : {M : Type 1} → statement M
 first-eight-spec =
@@ -32,7 +39,12 @@ first-eight-spec =
     (tie.spec
     Inv-loop
     μ-loop
-    (λ c. (omega arith, refl, refl))
+    (λ c. (omega arith, refl, refl, refl, refl))
+    (λ c. search needs)
+    (λ c. search needs)
+    (λ c. search needs)
+    (λ c. search needs)
+    (λ c. search needs)
     (λ c. search needs)
     (λ c. search needs)
     (λ c. search needs)

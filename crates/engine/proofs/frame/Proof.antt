@@ -24,13 +24,14 @@ message-requires c κs =
 
 register-requires : tie.Need-register-requires
 register-requires c κs =
-    let arm = c .before .before .before .before in
+    let eight = c .before .before .before in
+    let arm = eight .before .before in
     let parsed = arm .before .before .before .before in
     let opened = parsed .before .before .before in
     let bytes = opened .before .args .bytes .now in
     let read = parsed .read in
     let m = read-register bytes (read .result) (read .ensures) _ _ _ _ (arm .what3 .given .1) in
-    let few = read-eight (c .before .before .first-eight .ensures) (c .before .first-eight2 .ensures) (m .0) (m .4) in
+    let few = read-eight (eight .first-eight .ensures .0) (eight .first-eight .ensures .1) (m .0) (m .4) in
     (search needs, ((m .1, m .2, m .3, few .least, m .4), few .fit))
 
 unregister-requires : tie.Need-unregister-requires
@@ -66,14 +67,14 @@ returns-3 c =
 
 returns-4 : tie.Need-returns-4
 returns-4 c =
-    let arm = c .before .before .before .before .before .before .before in
+    let eight = c .before .before .before .before .before .before in
+    let arm = eight .before .before in
     let parsed = arm .before .before .before .before in
     let opened = parsed .before .before .before in
     let bytes = opened .before .args .bytes .now in
     let read = parsed .read in
     let m = read-register bytes (read .result) (read .ensures) _ _ _ _ (arm .what3 .given .1) in
-    let cut = c .before .before .before .before in
-    let few = read-eight (cut .before .first-eight .ensures) (cut .first-eight2 .ensures) (m .0) (m .4) in
+    let few = read-eight (eight .first-eight .ensures .0) (eight .first-eight .ensures .1) (m .0) (m .4) in
     done _ _ _ _ _ (search needs) (search needs) (few .is) (λ i. opened .slice-known .given i .fits) (λ i. c .slice-known4 .given i .fits)
     (c .before .before .register .ensures)
 
@@ -120,7 +121,6 @@ frame-spec =
     (λ c. search needs)
     (λ c κs. search needs)
     (λ c. search needs)
-    (λ c κs. search needs)
     (λ c κs. search needs)
     (λ c. search needs)
     register-requires

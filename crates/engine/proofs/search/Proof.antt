@@ -18,8 +18,11 @@ returns-2 c =
     (search-refused _ _ _ _ (omega arith) (r .read-asked .ensures) (λ e. omega arith) (c .unanswered2 .ensures), refl)
 
 -- what is asked for, and the first eight of its terms and weights
+abbrev eight-of : tie.After-load → tie.After-first-eight
+eight-of l = l .before .before .before .before
+
 abbrev read-of : tie.After-load → tie.After-read-asked
-read-of l = l .before .before .before .before .before .before .before .before
+read-of l = eight-of l .before .before .before .before .before
 
 asks : (l : tie.After-load) → Question (read-of l .before .before .before .before .args .bytes .now) (read-of l .read-asked .result)
 asks l = question _ _ (read-of l .read-asked .ensures) (omega arith)
@@ -29,14 +32,14 @@ long l = omega arith
 
 search-requires : tie.Need-search-requires
 search-requires c κs =
-    let u = c .before in
-    (long c, c .load .ensures .oldest-below, c .load .ensures .count-below, asked-fit (asks c) (u .before .first-eight .ensures) (u .first-eight2 .ensures))
+    let few = eight-of c .first-eight .ensures in
+    (long c, c .load .ensures .oldest-below, c .load .ensures .count-below, asked-fit (asks c) (few .0) (few .1))
 
 returns-3 : tie.Need-returns-3
 returns-3 c =
     let l = c .before .before in
-    let u = l .before in
-    (search-right (asks l) (u .before .first-eight .ensures) (u .first-eight2 .ensures) _ (long l) (l .load .ensures) (c .before .search .ensures) (c .of .ensures), refl)
+    let few = eight-of l .first-eight .ensures in
+    (search-right (asks l) (few .0) (few .1) _ (long l) (l .load .ensures) (c .before .search .ensures) (c .of .ensures), refl)
 
 pub search-spec : {M : Type 1} → statement M
 search-spec =
@@ -47,9 +50,8 @@ search-spec =
     (λ c κs. search needs)
     (λ c κs. search needs)
     returns-2
+    (λ c κs. search needs)
     (λ c. search needs)
-    (λ c κs. search needs)
-    (λ c κs. search needs)
     (λ c κs. search needs)
     search-requires
     (λ c κs. search needs)

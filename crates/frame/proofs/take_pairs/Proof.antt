@@ -1,14 +1,15 @@
 -- `take_pairs` meets its contract. Assumes nothing.
-use Prim.Native.Nat.{ℕ, _+_, _*_, _-_, _/_, _%_, _^_, _≤_}
+use Prim.Native.Nat.{ℕ, _+_, _*_, _-_, _/_, _%_, _^_, _≤_, _<_}
 use native.Mathlib.Omega.{arith}
 use native.Mathlib.Numerals.{add-one}
-use native.Mathlib.Nat.{zero-mul, add-zero, sub-zero, suc-mul}
+use native.Mathlib.Nat.{zero-mul, add-zero, sub-zero, suc-mul, lt-of-lt-of-le}
 use mathlib.Core.Bool.{Bool}
 use mathlib.Core.List.{[]}
 use mathlib.Core.Path.{_≡_, refl, sym, ap, _∙_}
 use lib.ListN.{length}
+use lib.Pow.{pow-mono}
 use Rattle.wire.specs.Field.{field}
-use Rattle.paper.specs.Frame.{pairsAt, positive}
+use Rattle.paper.specs.Frame.{termWidth, countWidth, pairsAt, positive}
 use Rattle.frame.specs.Read.{termArray, amountArray, pairsNumber}
 use Rattle.wire.proofs.FieldLaws.{field-lt}
 use Rattle.frame.proofs.PairLaws.{judgedFrom, judged-all, pair-term, pair-amount, counted, positive-all, turn-fits, array-turn, number-turn, pairs-none}
@@ -64,10 +65,25 @@ amount-is c =
     c .low-bits .ensures ∙ ap (λ (x : ℕ). x % 2 ^ a .width) (c .before .before .take-bits .ensures)
     ∙ pair-amount (a .bytes .now) (c .before .before .before .before .loop .next) (a .width) (h .0)
 
+-- each has no more bits than its field
+term-small : (c : tie.After-high-bits Inv-loop μ-loop) → c .high-bits .result < 2 ^ termWidth
+term-small c =
+    rw (term-is c) (field-lt (c .before .before .before .before .before .args .bytes .now) (c .before .before .before .loop .next) termWidth)
+
+amount-small : (c : tie.After-low-bits Inv-loop μ-loop) → c .low-bits .result < 2 ^ countWidth
+amount-small c =
+    let a = c .before .before .before .before .before .before .args in
+    let few : 2 ^ a .width ≤ 2 ^ countWidth = pow-mono {j = countWidth} (omega arith) in
+    rw (amount-is c) (lt-of-lt-of-le (field-lt (a .bytes .now) (c .before .before .before .before .loop .next + 10) (a .width)) few)
+
+cast-terms : tie.Need-cast-terms Inv-loop μ-loop
+cast-terms c = let h = term-small (c .before) in omega arith
+
+cast-amounts : tie.Need-cast-amounts Inv-loop μ-loop
+cast-amounts c = let h = amount-small c in omega arith
+
 add-least : tie.Need-add-least Inv-loop μ-loop
-add-least c =
-    let high = c .before .before in
-    omega (arith, term-is high, field-lt (high .before .before .before .before .before .args .bytes .now) (high .before .before .before .loop .next) 10)
+add-least c = let h = term-small (c .before .before) in omega arith
 
 add-next-2 : tie.Need-add-next-2 Inv-loop μ-loop
 add-next-2 c = let h = fits (c .before .before .before .before) in omega arith
@@ -104,6 +120,6 @@ returns c =
 
 pub take-pairs-spec : {M : Type 1} → statement M
 take-pairs-spec =
-    tie.close (tie.spec Inv-loop μ-loop loop-holds (λ c. omega arith) take-bits-requires (λ c κs. omega arith) (λ c κs. omega arith) (λ c. omega arith)
-    (λ c. omega arith) (λ c. omega arith) (λ c. omega arith) (λ c κs. tt) add-least (λ c. omega arith) add-next-2 (λ c. omega arith)
+    tie.close (tie.spec Inv-loop μ-loop loop-holds (λ c. omega arith) take-bits-requires (λ c κs. omega arith) (λ c κs. omega arith) cast-terms
+    (λ c. omega arith) (λ c. omega arith) cast-amounts (λ c. omega arith) (λ c κs. tt) add-least (λ c. omega arith) add-next-2 (λ c. omega arith)
     (λ c. omega arith) loop-again returns)

@@ -87,5 +87,4 @@ unit-spec =
     (λ c κs. search needs)
     loop-less
     loop-again
-    (λ c. search needs)
     returns)

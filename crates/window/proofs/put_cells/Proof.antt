@@ -73,6 +73,7 @@ put-cells-spec =
     (λ c. search needs)
     (λ c. search needs)
     (λ c. search needs)
+    (λ c. search needs)
     of-requires
     cell-requires
     (λ c. search needs)

@@ -23,15 +23,15 @@ returns c = sym (top-of-none (c .before .before .before .before .before .args .c
 
 -- the impact lies between the two places
 between : (c : tie.Else1) → let s = c .before .before .before .before .before .args in
-    (c .before .before .lesser .result ≤ impact (s .count) (s .squares)) × (impact (s .count) (s .squares) ≤ c .before .lesser2 .result)
+    (c .before .before .place-of .result ≤ impact (s .count) (s .squares)) × (impact (s .count) (s .squares) ≤ c .before .place-of2 .result)
 between c =
     let s = c .before .before .before .before .before .args in
     let n : c .before .before .before .before .greater .result ≡ s .squares = let e = c .before .before .before .before .greater .ensures in omega arith in
     let u = c .before .before .before .unit .ensures in
     let l = low-place (s .count) (s .squares) (c .before .before .before .unit .result) (omega arith) (rw n at (u .0)) in
     let h = high-place (s .count) (s .squares) (c .before .before .before .unit .result) (omega arith) (rw n at (u .1)) in
-    let d = c .before .before .lesser .ensures in
-    let e = c .before .lesser2 .ensures in
+    let d = c .before .before .place-of .ensures in
+    let e = c .before .place-of2 .ensures in
     (omega arith, omega arith)
 
 place-requires : tie.Need-place-requires
@@ -39,7 +39,7 @@ place-requires c κs =
     let b = between (c .before .before) in
     let s = c .before .before .before .before .before .before .before .args in (
       omega arith,
-      rw (c .before .before .before .lesser2 .ensures) (min-le-right _ top),
+      rw (c .before .before .before .place-of2 .ensures) (min-le-right _ top),
       rw (c .most-square .ensures) (le-trans (mul-le-mul (b .0) (b .0)) (le-div-iff-mul-le (omega arith) .1 (impact-meets (s .count) (s .squares)))),
     )
 
