@@ -1,6 +1,8 @@
 //! The C entries behind safe calls. Every lent slice lies between guard bytes, which each call must leave alone.
 
-pub const STATE: usize = 27232;
+pub const STATE: usize = 43680;
+/// A message of 32 pairs.
+pub const LONGEST_FRAME: usize = 80;
 pub const FRAME_ANSWER: usize = 8;
 pub const LIST_ANSWER: usize = 132;
 pub const SEARCH_ANSWER: usize = 136;
@@ -267,27 +269,51 @@ pub fn write_over(f: &Fields, held: &[u8]) -> Result<Vec<u8>, u32> {
 
 // ---- what the state memory keeps (docs/STATE.md)
 
+/// How many slots the ring has, and a slot's words: those before its cells, and its cells.
+const SLOTS: usize = 257;
+const HEAD: usize = 3;
+const CELLS: usize = 32;
+
+/// The word at which a slot starts, behind the header.
+pub fn slot_at(j: usize) -> usize {
+    5 + (HEAD + CELLS) * j
+}
+
+/// The word at which a query's record starts, behind the slots.
+pub fn record_at(q: usize) -> usize {
+    slot_at(SLOTS) + 60 * q
+}
+
 /// A word of the state memory.
 pub fn state_word(bytes: &[u8], i: usize) -> u32 {
     u32::from_le_bytes(bytes[4 * i..4 * i + 4].try_into().unwrap())
 }
 
+/// The term of a cell, whose other bits are 8 of its count and 14 of its impact.
+pub fn term_at(state: &[u8], slot: usize, cell: usize) -> u32 {
+    state_word(state, slot_at(slot) + HEAD + cell) >> 22
+}
+
 pub struct Slot {
     at: usize,
     /// Its words before the cells: time, serial, and size with 64 times the urgency.
-    pub head: [u32; 3],
+    pub head: [u32; HEAD],
+    pub cells: [u32; CELLS],
 }
 
 /// The slots of the window, oldest first.
 pub fn window(state: &[u8]) -> Vec<Slot> {
     let (oldest, count) = (state_word(state, 3) as usize, state_word(state, 4) as usize);
-    let slot = |at: usize| Slot { at, head: [0, 1, 2].map(|i| state_word(state, 5 + 19 * at + i)) };
-    (0..count).map(|i| slot((oldest + i) % 257)).collect()
+    let slot = |at: usize| {
+        let word = |i: usize| state_word(state, slot_at(at) + i);
+        Slot { at, head: std::array::from_fn(word), cells: std::array::from_fn(|i| word(HEAD + i)) }
+    };
+    (0..count).map(|i| slot((oldest + i) % SLOTS)).collect()
 }
 
 /// The bytes of a query's record.
 pub fn record(state: &[u8], q: usize) -> &[u8] {
-    &state[4 * (4888 + 60 * q)..4 * (4888 + 60 * (q + 1))]
+    &state[4 * record_at(q)..4 * record_at(q + 1)]
 }
 
 pub struct Kept {

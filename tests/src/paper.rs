@@ -1,10 +1,10 @@
 //! The paper log of the document, a full ranking after each frame, and a search step by step. It shares no code with the engine and is written for
 //! plainness.
 
-pub use passage::Frame;
+pub use passage::{Form, Frame};
 use std::collections::VecDeque;
 
-pub const TOP: u64 = 1000;
+pub const TOP: u64 = 2000;
 
 #[derive(Debug, Clone)]
 pub struct Message {
@@ -22,9 +22,18 @@ pub struct Query {
     pub terms: Vec<(u32, u32)>,
 }
 
+/// The form of a routine message with so many pairs: of kind 1 where that can say them.
+pub fn routine(pairs: usize) -> Form {
+    if pairs <= Form::Plain.most() {
+        Form::Plain
+    } else {
+        Form::Long(0)
+    }
+}
+
 // ---- impact and rank
 
-/// The greatest whole w with w² × n ≤ (1000 × f)²: a guess, for speed, put right by that rule alone.
+/// The greatest whole w with w² × n ≤ (2000 × f)²: a guess, for speed, put right by that rule alone.
 pub fn impact(f: u64, n: u64) -> u64 {
     let mut w = ((TOP * f) as f64 / (n as f64).sqrt()) as u64;
     while w * w * n > (TOP * f) * (TOP * f) {
@@ -142,9 +151,8 @@ impl Log {
         self.clock = f.time();
         let mut arrived = Vec::new();
         match f {
-            Frame::Message { time, serial, urgency, pairs } => {
-                // a message that says no urgency is routine
-                let m = Message { time: *time, serial: *serial, urgency: urgency.unwrap_or(0), pairs: pairs.clone(), cancelled: false };
+            Frame::Message { time, serial, form, pairs } => {
+                let m = Message { time: *time, serial: *serial, urgency: form.urgency(), pairs: pairs.clone(), cancelled: false };
                 self.messages.push(m.clone());
                 arrived.push(m);
             }

@@ -1,17 +1,22 @@
 //! Random passages made to suit a log: besides ordinary frames, ones refused under each number of ORDER in turn, frames handed again, serials used
 //! again, also of a message in its last second, that leaves by the frame or that was cancelled and still fills its place, cancellations of messages
-//! that are in force and of ones that aren't any more, twins of messages, messages of each urgency and of none, and times on which messages leave.
+//! that are in force and of ones that aren't any more, twins of messages, messages of each form and urgency, and times on which messages leave.
 //! Every number is met so whatever the seed; rarer things may not be.
 
-use crate::paper::{Frame, Log};
+use crate::paper::{Form, Frame, Log};
 use crate::random::Random;
+use std::collections::BTreeSet;
+use std::ops::Range;
 
 /// What a passage is made of.
 #[derive(Clone, Copy)]
 pub struct Style {
     pub capacity: u32,
     pub life: u32,
+    /// All terms are below this, and those below `rare` only messages of kind 7 have: as they are the lower ones, what queries ask for is often past
+    /// such a message's 16th pair.
     pub terms: u64,
+    pub rare: u64,
     pub counts: u64,
     pub serials: u64,
     pub queries: u64,
@@ -22,6 +27,13 @@ pub struct Style {
     pub jump: u64,
     /// So many frames cancel a message for every 18 that send one.
     pub cancels: u64,
+}
+
+impl Style {
+    /// The terms of queries, and of messages of kinds 1 and 6.
+    fn shared(&self) -> Range<u64> {
+        self.rare..self.terms
+    }
 }
 
 /// The refusals of a frame, in the order in which they are judged.
@@ -74,7 +86,7 @@ impl Source {
                 bytes[i] ^= 1 << r.below(8);
             }
             3 => {
-                let n = r.pick(4, 256, 48) as usize;
+                let n = r.pick(4, 256, 84) as usize;
                 bytes = r.bytes(n);
             }
             _ => {}
@@ -101,8 +113,9 @@ impl Source {
             0 | 1 => 2,
             2..=4 => 3,
             5 => 4,
-            6..=14 => 1,
-            15..=23 => 6,
+            6..=11 => 1,
+            12..=17 => 6,
+            18..=23 => 7,
             _ => 5,
         });
         let number = r.below(s.queries) as usize;
@@ -112,7 +125,7 @@ impl Source {
         // a frame of an earlier time is refused for that, so any serial will do
         let now = time.max(log.clock);
         match kind {
-            1 | 6 => {
+            1 | 6 | 7 => {
                 let cancelled = |r: &mut Random| picked(r, log.filled_at(now).into_iter().filter(|&i| log.messages[i].cancelled));
                 let old = match r.below(8) {
                     0 => earlier(r, 2 * log.capacity),
@@ -121,15 +134,19 @@ impl Source {
                 };
                 let old = ending(r).or(old);
                 let twin = if r.one_in(6) { earlier(r, 20) } else { None };
-                Frame::Message {
-                    time,
-                    serial: old.map_or(r.below(s.serials) as u32, |i| log.messages[i].serial),
-                    urgency: (kind == 6).then(|| r.below(3) as u32),
-                    pairs: twin.map_or_else(|| rising(r, 16, s.terms, s.counts), |i| log.messages[i].pairs.clone()),
-                }
+                let serial = old.map_or(r.below(s.serials) as u32, |i| log.messages[i].serial);
+                let (form, terms) = match kind {
+                    1 => (Form::Plain, s.shared()),
+                    6 => (Form::Graded(r.below(3) as u32), s.shared()),
+                    _ => (Form::Long(r.below(3) as u32), 0..s.terms),
+                };
+                let mut pairs = twin.map_or_else(|| rising(r, form.most(), terms, s.counts), |i| log.messages[i].pairs.clone());
+                // the other of the twins may be of kind 7
+                pairs.truncate(form.most());
+                Frame::Message { time, serial, form, pairs }
             }
             2 => Frame::Tick { time },
-            3 => Frame::Register { time, number, k: 1 + r.below(s.entries) as usize, terms: rising(r, 8, s.terms, 15) },
+            3 => Frame::Register { time, number, k: 1 + r.below(s.entries) as usize, terms: rising(r, 8, s.shared(), 15) },
             4 => Frame::Drop { time, number },
             _ => {
                 let old = match r.below(8) {
@@ -152,13 +169,13 @@ impl Source {
             also[n as usize] = n == number || self.r.one_in(3);
         }
         let kind = match number {
-            5 | 6 => [1, 3, 6][self.r.below(3) as usize],
-            8 => [1, 6][self.r.below(2) as usize],
+            5 | 6 => [1, 3, 6, 7][self.r.below(4) as usize],
+            8 => [1, 6, 7][self.r.below(3) as usize],
             9 => 3,
             10 => 4,
             13 => 5,
-            14 => 6,
-            _ => 1 + self.r.below(6) as u32,
+            14 => [6, 7][self.r.below(2) as usize],
+            _ => 1 + self.r.below(7) as u32,
         };
         let mut time = log.clock.saturating_add(self.r.below(self.style.step + 1) as u32);
         if also[7] {
@@ -186,13 +203,13 @@ impl Source {
             },
             _ => {}
         }
-        if let (true, Frame::Message { urgency: Some(urgency), .. }) = (also[14], &mut f) {
+        if let (true, Frame::Message { form: Form::Graded(urgency) | Form::Long(urgency), .. }) = (also[14], &mut f) {
             *urgency = 3;
         }
+        let most = if let Frame::Message { form, .. } = &f { form.most() } else { 8 };
         if let Frame::Message { pairs, .. } | Frame::Register { terms: pairs, .. } = &mut f {
             if also[6] {
                 let (i, p) = (r.below(pairs.len() as u64) as usize, pairs[0]);
-                let most = if kind == 3 { 8 } else { 16 };
                 if pairs.len() == most {
                     pairs.pop();
                 }
@@ -206,15 +223,7 @@ impl Source {
         }
         let mut bytes = f.bytes();
         if also[4] {
-            let bits = match &f {
-                Frame::Message { urgency: None, pairs, .. } => 60 + 18 * pairs.len(),
-                Frame::Message { pairs, .. } => 62 + 18 * pairs.len(),
-                Frame::Tick { .. } => 36,
-                Frame::Register { terms, .. } => 48 + 14 * terms.len(),
-                Frame::Drop { .. } => 41,
-                Frame::Cancel { .. } => 56,
-            };
-            match (8 * bytes.len() - bits) as u64 {
+            match (8 * bytes.len() - f.bits().len()) as u64 {
                 0 if number == 4 => {
                     bytes = Frame::Tick { time }.bytes();
                     bytes[4] |= 1;
@@ -224,15 +233,18 @@ impl Source {
             }
         }
         if also[3] {
-            if bytes.len() > 6 && r.one_in(2) {
-                bytes.truncate(6 + r.below(bytes.len() as u64 - 6) as usize);
-            } else {
-                let n = 1 + r.pick(4, 255 - bytes.len() as u64, 3) as usize;
-                bytes.extend(r.bytes(n));
+            match r.below(3) {
+                // the one for the other: their numbers of pairs differ in width, by which the length is wrong
+                0 if [6, 7].contains(&kind) => bytes[0] ^= 0x10,
+                1 if bytes.len() > 6 => bytes.truncate(6 + r.below(bytes.len() as u64 - 6) as usize),
+                _ => {
+                    let n = 1 + r.pick(4, 255 - bytes.len() as u64, 3) as usize;
+                    bytes.extend(r.bytes(n));
+                }
             }
         }
         if also[2] {
-            let kind = [0, 7, 8, 9, 10, 11, 12, 13, 14, 15][r.below(10) as usize];
+            let kind = [0, 8, 9, 10, 11, 12, 13, 14, 15][r.below(9) as usize];
             bytes[0] = kind << 4 | bytes[0] & 15;
         }
         if also[1] {
@@ -246,7 +258,7 @@ impl Source {
 /// Weights are mostly low, so that many products are equal. Time and number are any. Some are made to be refused.
 pub fn question(r: &mut Random, log: &Log, style: &Style) -> Vec<u8> {
     let most = [1, 3, 15][r.below(3) as usize];
-    let mut terms = rising(r, 8, style.terms, most);
+    let mut terms = rising(r, 8, style.shared(), most);
     if let Some(i) = picked(r, log.in_force_at(log.clock)).filter(|_| !r.one_in(3)) {
         for &(term, _) in &log.messages[i].pairs {
             if terms.len() < 8 && r.one_in(2) && terms.iter().all(|t| t.0 != term) {
@@ -292,11 +304,13 @@ fn not_in_force(r: &mut Random, log: &Log, time: u32) -> u32 {
     }
 }
 
-/// Pairs with rising terms below `terms` and amounts from 1 to `top`.
-fn rising(r: &mut Random, most: u64, terms: u64, top: u64) -> Vec<(u32, u32)> {
-    let n = 1 + r.below(most.min(terms));
-    let mut ts: Vec<u32> = (0..n).map(|_| r.below(terms) as u32).collect();
-    ts.sort_unstable();
-    ts.dedup();
+/// Up to `most` pairs with rising terms out of these and amounts from 1 to `top`.
+fn rising(r: &mut Random, most: usize, terms: Range<u64>, top: u64) -> Vec<(u32, u32)> {
+    let all = terms.end - terms.start;
+    let n = 1 + r.below(all.min(most as u64)) as usize;
+    let mut ts = BTreeSet::new();
+    while ts.len() < n {
+        ts.insert((terms.start + r.below(all)) as u32);
+    }
     ts.into_iter().map(|t| (t, 1 + r.below(top) as u32)).collect()
 }

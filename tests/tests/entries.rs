@@ -1,7 +1,7 @@
 //! Single calls: refusals in their order, lengths lent, the writer, and memory that no call left.
 
-use fennelrake_tests::engine::{self, Fields, Lent, FRAME_ANSWER, LIST_ANSWER, SEARCH_ANSWER, STATE};
-use fennelrake_tests::paper::Frame;
+use fennelrake_tests::engine::{self, Fields, Lent, FRAME_ANSWER, LIST_ANSWER, LONGEST_FRAME, SEARCH_ANSWER, STATE};
+use fennelrake_tests::paper::{Form, Frame};
 use fennelrake_tests::random::Random;
 
 fn fresh() -> Lent {
@@ -59,7 +59,8 @@ fn lengths_lent() {
     assert_eq!(engine::postings(&fresh(), 1023, 0), Ok(vec![]));
 }
 
-/// The worked frames C4 to C7; a cancellation, whose serial no fill follows; and an urgent message of one pair, without a fill too.
+/// The worked frames C4 to C7; a cancellation, whose serial no fill follows; an urgent message of one pair, without a fill too; and the same of kind
+/// 7, with a bit more for the number of pairs and seven that fill it up.
 #[test]
 fn worked_frames() {
     let state = fresh();
@@ -76,29 +77,43 @@ fn worked_frames() {
     assert_eq!(number(&[0x50, 0, 0, 2, 0x80, 0, 1]), 13);
     assert_eq!(number(&[0x50, 0, 0, 2, 0x80, 0]), 3);
     assert_eq!(number(&[0x50, 0, 0, 2, 0x80, 0, 1, 0]), 3);
-    assert_eq!(Frame::Message { time: 10, serial: 1, urgency: Some(2), pairs: vec![(5, 1)] }.bytes(), [0x60, 0, 0, 0, 0xa0, 0, 1, 0x80, 5, 1]);
+    let vital = |form| Frame::Message { time: 10, serial: 1, form, pairs: vec![(5, 1)] }.bytes();
+    assert_eq!(vital(Form::Graded(2)), [0x60, 0, 0, 0, 0xa0, 0, 1, 0x80, 5, 1]);
     assert_eq!(number(&[0x60, 0, 0, 0, 0xa0, 0, 1, 0x80, 5, 1]), 0);
     assert_eq!(number(&[0x60, 0, 0, 0, 0xa0, 0, 1, 0xc0, 5, 1]), 14);
     assert_eq!(number(&[0x60, 0, 0, 0, 0xa0, 0, 1, 0x80, 5]), 3);
     assert_eq!(number(&[0x60, 0, 0, 0, 0xa0, 0, 1, 0x80, 5, 1, 0]), 3);
-    assert_eq!(number(&[0x70, 0, 0, 0, 0xa0, 0, 1, 0x80, 5, 1]), 2);
+    assert_eq!(vital(Form::Long(2)), [0x70, 0, 0, 0, 0xa0, 0, 1, 0x80, 2, 0x80, 0x80]);
+    assert_eq!(number(&[0x70, 0, 0, 0, 0xa0, 0, 1, 0x80, 2, 0x80, 0x80]), 0);
+    assert_eq!(number(&[0x70, 0, 0, 0, 0xa0, 0, 1, 0xc0, 2, 0x80, 0x80]), 14);
+    assert_eq!(number(&[0x70, 0, 0, 0, 0xa0, 0, 1, 0x80, 2, 0x80, 0]), 5);
+    assert_eq!(number(&[0x70, 0, 0, 0, 0xa0, 0, 1, 0x80, 2, 0x80, 0x81]), 4);
+    assert_eq!(number(&[0x70, 0, 0, 0, 0xa0, 0, 1, 0x80, 2, 0x80]), 3);
+    assert_eq!(number(&[0x70, 0, 0, 0, 0xa0, 0, 1, 0x80, 2, 0x80, 0x80, 0]), 3);
+    // kind 6 for 7, and 7 for 6: the length is that of a number of pairs of the other width
+    assert_eq!(number(&[0x60, 0, 0, 0, 0xa0, 0, 1, 0x80, 2, 0x80, 0x80]), 3);
+    assert_eq!(number(&[0x70, 0, 0, 0, 0xa0, 0, 1, 0x80, 5, 1]), 3);
+    assert_eq!(number(&[0x80, 0, 0, 0, 0xa0, 0, 1, 0x80, 2, 0x80, 0x80]), 2);
 }
 
-/// An urgent message with everything wrong that can be, mended from one row to the next: of what is wrong the first is told.
+/// A message of either kind that says an urgency, with everything wrong that can be, mended from one row to the next: of what is wrong the first is
+/// told.
 #[test]
 fn an_urgent_message_refused_in_order() {
-    let mut state = fresh();
-    let message = |time, serial, urgency, pairs: &[(u32, u32)]| Frame::Message { time, serial, urgency, pairs: pairs.to_vec() }.bytes();
-    assert_eq!(engine::frame(&mut state, &message(50, 1, None, &[(5, 1)])).number, 0);
-    for (mended, number) in [1, 2, 3, 4, 14, 5, 6, 7, 8, 0].into_iter().enumerate() {
-        let wrong = |place: usize, bad: u32, good: u32| if mended <= place { bad } else { good };
-        let pairs = [(5, wrong(5, 0, 1)), (wrong(6, 5, 6), 1)];
-        let mut bytes = message(wrong(7, 49, 50), wrong(8, 1, 2), Some(wrong(4, 3, 2)), &pairs);
-        // the last bit of six that fill up 98
-        *bytes.last_mut().unwrap() |= wrong(3, 1, 0) as u8;
-        bytes.resize(wrong(0, 4, wrong(2, 14, 13)) as usize, 0);
-        bytes[0] += wrong(1, 0x10, 0) as u8;
-        assert_eq!(engine::frame(&mut state, &bytes).number, number, "{bytes:02x?}");
+    for form in [Form::Graded, Form::Long] {
+        let mut state = fresh();
+        let message = |time, serial, form, pairs: &[(u32, u32)]| Frame::Message { time, serial, form, pairs: pairs.to_vec() }.bytes();
+        assert_eq!(engine::frame(&mut state, &message(50, 1, Form::Plain, &[(5, 1)])).number, 0);
+        for (mended, number) in [1, 2, 3, 4, 14, 5, 6, 7, 8, 0].into_iter().enumerate() {
+            let wrong = |place: usize, bad: u32, good: u32| if mended <= place { bad } else { good };
+            let pairs = [(5, wrong(5, 0, 1)), (wrong(6, 5, 6), 1)];
+            let mut bytes = message(wrong(7, 49, 50), wrong(8, 1, 2), form(wrong(4, 3, 2)), &pairs);
+            // the last bit of those that fill up 98 or 99
+            *bytes.last_mut().unwrap() |= wrong(3, 1, 0) as u8;
+            bytes.resize(wrong(0, 4, wrong(2, 14, 13)) as usize, 0);
+            bytes[0] = wrong(1, 0x80, bytes[0] as u32) as u8;
+            assert_eq!(engine::frame(&mut state, &bytes).number, number, "{bytes:02x?}");
+        }
     }
 }
 
@@ -128,6 +143,30 @@ fn any_bytes() {
     check(&state, &r.bytes(4096));
 }
 
+/// Messages of kind 7 with every number of pairs: cut anywhere, longer by a byte, under each kind, and with each bit another. The engine agrees as
+/// above.
+#[test]
+fn long_messages_altered() {
+    let state = fresh();
+    for n in 1..=32 {
+        let pairs = (0..n).map(|i| (31 * i + 3, 255 - 8 * i)).collect();
+        let bytes = Frame::Message { time: 77, serial: 0xf_fffe, form: Form::Long(n % 3), pairs }.bytes();
+        assert_eq!(engine::frame(&mut state.clone(), &bytes).number, 0);
+        (0..bytes.len()).for_each(|len| check(&state, &bytes[..len]));
+        check(&state, &[&bytes[..], &[0]].concat());
+        for i in 0..8 * bytes.len() {
+            let mut altered = bytes.clone();
+            altered[i / 8] ^= 0x80 >> (i % 8);
+            check(&state, &altered);
+        }
+        for kind in 0..16 {
+            let mut altered = bytes.clone();
+            altered[0] = kind << 4 | altered[0] & 15;
+            check(&state, &altered);
+        }
+    }
+}
+
 fn check(state: &Lent, bytes: &[u8]) {
     let number = engine::frame(&mut state.clone(), bytes).number;
     match Frame::read(bytes) {
@@ -149,16 +188,18 @@ fn check(state: &Lent, bytes: &[u8]) {
 fn writer() {
     let mut r = Random::new(12);
     let mut met = [0usize; 15];
-    for _ in 0..20000 {
-        let n = r.below(18) as usize;
+    // of more than 16 pairs: written, and refused since the kind has no more
+    let mut long = [0usize; 2];
+    for _ in 0..30000 {
+        let n = r.pick(2, 36, 18) as usize;
         let mut terms: Vec<u16> = (0..n).map(|_| r.below(1040) as u16).collect();
         if !r.one_in(6) {
             terms.sort_unstable();
             terms.dedup();
         }
-        let amounts: Vec<u8> = terms.iter().map(|_| if r.one_in(30) { 0 } else { 1 + r.pick(3, 255, 15) as u8 }).collect();
+        let amounts: Vec<u8> = terms.iter().map(|_| if r.one_in(60) { 0 } else { 1 + r.pick(3, 255, 15) as u8 }).collect();
         let f = Fields {
-            kind: if r.one_in(20) { r.below(9) as u32 } else { 1 + r.below(6) as u32 },
+            kind: if r.one_in(20) { r.below(10) as u32 } else { 1 + r.below(7) as u32 },
             time: r.next() as u32,
             serial: r.pick(9, 1 << 32, 1 << 20) as u32,
             urgency: r.pick(9, 1 << 32, 4) as u32,
@@ -175,10 +216,15 @@ fn writer() {
         let got = engine::write(&f, room);
         assert_eq!(got, want, "{f:?}");
         met[*got.as_ref().err().unwrap_or(&0) as usize] += 1;
+        if f.pairs > 16 {
+            long[0] += (f.kind == 7 && got.is_ok()) as usize;
+            long[1] += ([1, 6].contains(&f.kind) && got == Err(5)) as usize;
+        }
     }
     for number in [0, 2, 14, 5, 6, 12] {
         assert!(met[number] > 20, "number {number} was hardly met: {met:?}");
     }
+    assert!(long.iter().all(|count| *count > 20), "messages of more than 16 pairs were hardly met: {long:?}");
 }
 
 /// The bytes that the fields make, or 2, 14, 5 or 6.
@@ -196,14 +242,14 @@ fn expected(f: &Fields) -> Result<Vec<u8>, u32> {
     };
     let rising = |ps: &[(u32, u32)]| -> Result<(), u32> { if ps.windows(2).any(|w| w[0].0 >= w[1].0) { Err(6) } else { Ok(()) } };
     let frame = match f.kind {
-        6 if f.urgency > 2 => return Err(14),
-        1 | 6 => {
+        6 | 7 if f.urgency > 2 => return Err(14),
+        1 | 6 | 7 => {
             if f.serial > 0xf_ffff {
                 return Err(5);
             }
-            let ps = pairs(16, 255)?;
+            let ps = pairs(if f.kind == 7 { 32 } else { 16 }, 255)?;
             rising(&ps)?;
-            Frame::Message { time: f.time, serial: f.serial, urgency: (f.kind == 6).then_some(f.urgency), pairs: ps }
+            Frame::Message { time: f.time, serial: f.serial, form: form(f.kind, f.urgency), pairs: ps }
         }
         2 => Frame::Tick { time: f.time },
         3 => {
@@ -223,17 +269,27 @@ fn expected(f: &Fields) -> Result<Vec<u8>, u32> {
     Ok(frame.bytes())
 }
 
+/// The form of a message by its kind.
+fn form(kind: u32, urgency: u32) -> Form {
+    match kind {
+        1 => Form::Plain,
+        6 => Form::Graded(urgency),
+        7 => Form::Long(urgency),
+        _ => panic!("{kind} is no kind of message"),
+    }
+}
+
 /// Urgencies above 2, those too whose last two bits are a grade's.
 const NO_URGENCY: [u32; 7] = [3, 4, 7, 256, 1 << 16, 1 << 31, u32::MAX];
 
-/// The writer with everything wrong in an urgent message, mended from one row to the next.
+/// The writer with everything wrong in a message of either kind that says an urgency, mended from one row to the next.
 #[test]
 fn an_urgent_message_not_written_in_order() {
-    for urgency in NO_URGENCY {
+    for (kind, urgency) in [6, 7].into_iter().flat_map(|kind| NO_URGENCY.map(|urgency| (kind, urgency))) {
         for (mended, number) in [2, 14, 5, 6, 12, 0].into_iter().enumerate() {
             let wrong = |place: usize, bad: u32, good: u32| if mended <= place { bad } else { good };
             let f = Fields {
-                kind: wrong(0, 7, 6),
+                kind: wrong(0, 8, kind),
                 serial: wrong(2, 1 << 20, 1),
                 urgency: wrong(1, urgency, 2),
                 pairs: 2,
@@ -251,30 +307,63 @@ fn an_urgent_message_not_written_in_order() {
 fn urgencies_not_looked_at() {
     for kind in 1..=5 {
         let with = |urgency| Fields { kind, urgency, time: 7, serial: 9, number: 3, k: 2, pairs: 1, terms: vec![5], amounts: vec![1] };
-        let frame = engine::write(&with(0), 44).expect("a frame that can be written");
+        let frame = engine::write(&with(0), LONGEST_FRAME).expect("a frame that can be written");
         assert_eq!(frame[0] >> 4, kind as u8);
         for urgency in [1, 2].into_iter().chain(NO_URGENCY) {
-            assert_eq!(engine::write(&with(urgency), 44).as_deref(), Ok(&frame[..]), "kind {kind}, urgency {urgency}");
+            assert_eq!(engine::write(&with(urgency), LONGEST_FRAME).as_deref(), Ok(&frame[..]), "kind {kind}, urgency {urgency}");
         }
     }
 }
 
-/// Messages of both kinds, of each urgency and number of pairs: written, read and taken in, with the kind and the urgency that they were given.
+/// Messages of every kind, of each urgency and number of pairs: written, read and taken in, with the kind and the urgency that they were given.
 #[test]
-fn both_kinds_of_message() {
-    for (kind, urgency) in [(1, 0), (6, 0), (6, 1), (6, 2)] {
-        for n in 1..=16 {
-            let (terms, amounts): (Vec<u16>, Vec<u8>) = (0..n).map(|i| (60 * i as u16 + 7, 255 - i as u8)).unzip();
+fn every_kind_of_message() {
+    for (kind, urgency) in [(1, 0), (6, 0), (6, 1), (6, 2), (7, 0), (7, 1), (7, 2)] {
+        let (head, most) = match kind {
+            1 => (60, 16),
+            6 => (62, 16),
+            _ => (63, 32),
+        };
+        for n in 1..=most {
+            let (terms, amounts): (Vec<u16>, Vec<u8>) = (0..n).map(|i| (32 * i as u16 + 7, 255 - i as u8)).unzip();
             let f = Fields { kind, urgency, time: u32::MAX, serial: 0xf_ffff, pairs: n, terms, amounts, ..Fields::default() };
-            let bytes = engine::write(&f, 44).expect("a frame that can be written");
+            let bytes = engine::write(&f, LONGEST_FRAME).expect("a frame that can be written");
             let pairs = f.terms.iter().zip(&f.amounts).map(|(&t, &a)| (t as u32, a as u32)).collect();
-            let want = Frame::Message { time: u32::MAX, serial: 0xf_ffff, urgency: (kind == 6).then_some(urgency), pairs };
+            let want = Frame::Message { time: u32::MAX, serial: 0xf_ffff, form: form(kind, urgency), pairs };
             assert_eq!(Frame::read(&bytes), Ok(want));
-            assert_eq!((bytes[0] >> 4, bytes.len()), (kind as u8, (60 + 2 * (kind == 6) as usize + 18 * n as usize).div_ceil(8)));
+            assert_eq!((bytes[0] >> 4, bytes.len()), (kind as u8, (head + 18 * n as usize).div_ceil(8)));
             let mut state = fresh();
             assert_eq!(engine::frame(&mut state, &bytes).number, 0);
             assert_eq!(engine::window(state.bytes())[0].head, [u32::MAX, 0xf_ffff, n + 64 * urgency]);
         }
+    }
+}
+
+/// How many pairs the writer takes, by the kind of message: none and one more than that are 5, and so is a number whose last bits would do.
+#[test]
+fn numbers_of_pairs() {
+    for (kind, most) in [(1, 16), (6, 16), (7, 32)] {
+        for n in (0..=40).chain([48, 64, 255, 256, 257, 272, 1 << 16, (1 << 16) + 1, 1 << 31, u32::MAX]) {
+            let (terms, amounts) = (0..n.min(300)).map(|i| (3 * i as u16, 9)).unzip();
+            let f = Fields { kind, pairs: n, terms, amounts, ..Fields::default() };
+            let want = if (1..=most).contains(&n) { 0 } else { 5 };
+            assert_eq!(engine::write(&f, LONGEST_FRAME).err().unwrap_or(0), want, "kind {kind}, {n} pairs");
+        }
+    }
+}
+
+/// The longest frame there is takes all of its bytes: with one fewer it is 12.
+#[test]
+fn the_longest_frame() {
+    let (terms, amounts) = (992..1024).map(|t| (t, 255)).unzip();
+    let f = Fields { kind: 7, time: u32::MAX, serial: 0xf_ffff, urgency: 2, pairs: 32, terms, amounts, ..Fields::default() };
+    assert_eq!(engine::write(&f, LONGEST_FRAME - 1), Err(12));
+    let bytes = engine::write(&f, LONGEST_FRAME).expect("a frame that can be written");
+    assert_eq!((bytes.len(), bytes.last()), (LONGEST_FRAME, Some(&0xfe)), "639 bits, the last of them ones");
+    let mut state = fresh();
+    assert_eq!(engine::frame(&mut state, &bytes).number, 0);
+    for term in 992..1024 {
+        assert_eq!(engine::postings(&state, term, 8), Ok(vec![(0xf_ffff, 353)]), "term {term}");
     }
 }
 
@@ -298,7 +387,7 @@ fn foreign_memory() {
             let (n, term) = (r.pick(4, 64, 2049) as usize, r.pick(8, 1 << 32, 1024) as u32);
             engine::raw::postings(&mut state, term, &mut Lent::new(&r.bytes(n)));
             // the term of a cell as it stands there, so that there are postings
-            let term = engine::state_word(state.bytes(), 5 + 19 * r.below(257) as usize + 3 + r.below(16) as usize) / 4194304;
+            let term = engine::term_at(state.bytes(), r.below(257) as usize, r.below(32) as usize);
             engine::raw::postings(&mut state, term, &mut Lent::new(&r.bytes(n)));
         }
         // a start takes nothing from what the memory held
@@ -308,9 +397,14 @@ fn foreign_memory() {
     assert!(changed > 200, "hardly a call took a frame into foreign memory: {changed}");
 }
 
-/// None, as kind 1 has it, or one of the three.
-fn urgency(r: &mut Random) -> Option<u32> {
-    r.below(4).checked_sub(1).map(|u| u as u32)
+fn any_form(r: &mut Random) -> Form {
+    form([1, 6, 7][r.below(3) as usize], r.below(3) as u32)
+}
+
+/// Four pairs, with this count of term 500; of kind 7 as many as there can be.
+fn some_pairs(form: Form, count: u32) -> Vec<(u32, u32)> {
+    let more = if matches!(form, Form::Long(_)) { 28 } else { 0 };
+    [(0, 1), (1, 255), (500, count)].into_iter().chain((0..more).map(|i| (600 + i, 9))).chain([(1023, 7)]).collect()
 }
 
 /// Any bytes; all of one value; a passage's state with bytes or words of it changed.
@@ -326,8 +420,8 @@ fn foreign(r: &mut Random, round: usize) -> Vec<u8> {
     for i in 0..r.below(60) as u32 {
         let (number, terms) = (r.below(32) as usize, vec![(1, 1), (500, 15)]);
         engine::frame(&mut state, &Frame::Register { time: i, number, k: 1 + r.below(16) as usize, terms }.bytes());
-        let (urgency, pairs) = (urgency(r), vec![(0, 1), (1, 255), (500, 1 + i), (1023, 7)]);
-        engine::frame(&mut state, &Frame::Message { time: i, serial: i, urgency, pairs }.bytes());
+        let form = any_form(r);
+        engine::frame(&mut state, &Frame::Message { time: i, serial: i, form, pairs: some_pairs(form, 1 + i) }.bytes());
         engine::frame(&mut state, &Frame::Cancel { time: i, serial: r.below(60) as u32 }.bytes());
     }
     let mut bytes = state.bytes().to_vec();
@@ -340,13 +434,13 @@ fn foreign(r: &mut Random, round: usize) -> Vec<u8> {
         // the five words at the start, and the first ones of slots and records, steer every loop
         for _ in 0..1 + r.below(20) {
             let i = match r.below(3) {
-                0 => r.below(5),
-                1 => 5 + 19 * r.below(257) + r.below(4),
-                _ => 4888 + 60 * r.below(32) + r.below(20),
-            } as usize;
-            // the serial word of a cancelled message, too: 1, 16 and 17 times 2 to the 20; and sizes beside an urgency of 1 to 3
+                0 => r.below(5) as usize,
+                1 => engine::slot_at(r.below(257) as usize) + r.below(4) as usize,
+                _ => engine::record_at(r.below(32) as usize) + r.below(20) as usize,
+            };
+            // the serial word of a cancelled message, too: 1, 32 and 33 times 2 to the 20; and sizes beside an urgency of 1 to 3
             let words = [
-                0, 1, 16, 17, 64, 80, 145, 192, 209, 255, 256, 257, 1 << 20, 16 << 20, 17 << 20, 1 << 31, u32::MAX - 1, u32::MAX,
+                0, 1, 16, 17, 32, 33, 64, 96, 161, 192, 225, 255, 256, 257, 1 << 20, 32 << 20, 33 << 20, 1 << 31, u32::MAX - 1, u32::MAX,
             ];
             let word: u32 = words[r.below(words.len() as u64) as usize];
             bytes[4 * i..4 * i + 4].copy_from_slice(&u32::to_le_bytes(word));
@@ -363,10 +457,13 @@ fn frame(r: &mut Random) -> Vec<u8> {
         0 => Frame::Tick { time },
         1 => Frame::Register { time, number, k: 1 + r.below(16) as usize, terms: vec![(1, 1), (500, 15)] },
         2 => Frame::Drop { time, number },
-        3 => Frame::Message { time, serial: r.below(1 << 20) as u32, urgency: urgency(r), pairs: vec![(0, 1), (1, 255), (1023, 7)] },
+        3 => {
+            let form = any_form(r);
+            Frame::Message { time, serial: r.below(1 << 20) as u32, form, pairs: some_pairs(form, 3) }
+        }
         4 => Frame::Cancel { time, serial: r.pick(4, 1 << 20, 60) as u32 },
         _ => {
-            let n = r.pick(4, 256, 45) as usize;
+            let n = r.pick(4, 256, LONGEST_FRAME as u64 + 1) as usize;
             return r.bytes(n);
         }
     };
@@ -378,8 +475,12 @@ fn frame(r: &mut Random) -> Vec<u8> {
 fn foreign_output() {
     let mut r = Random::new(14);
     for _ in 0..5000 {
-        let kind = r.pick(9, 1 << 32, 7) as u32;
-        let n = 1 + r.below(if kind == 3 { 8 } else { 16 });
+        let kind = r.pick(9, 1 << 32, 8) as u32;
+        let n = 1 + r.below(match kind {
+            3 => 8,
+            7 => 32,
+            _ => 16,
+        });
         let mut terms: Vec<u16> = (0..n).map(|_| r.below(1024) as u16).collect();
         terms.sort_unstable();
         terms.dedup();
@@ -387,7 +488,7 @@ fn foreign_output() {
         let (time, serial, urgency) = (r.next() as u32, r.below(1 << 20) as u32, r.below(3) as u32);
         let (number, k) = (r.below(32) as u32, 1 + r.below(16) as u32);
         let f = Fields { kind, time, serial, urgency, number, k, pairs: terms.len() as u32, terms, amounts };
-        let room = r.below(60) as usize;
+        let room = r.below(LONGEST_FRAME as u64 + 16) as usize;
         assert_eq!(engine::write_over(&f, &r.bytes(room)), engine::write(&f, room), "{f:?}");
     }
 }

@@ -4,7 +4,7 @@
 
 use fennelrake_tests::compare;
 use fennelrake_tests::engine::{self, Lent, Reply, STATE};
-use fennelrake_tests::paper::{asked, Frame, Log, Message, Query, TOP};
+use fennelrake_tests::paper::{asked, routine, Form, Frame, Log, Message, Query, TOP};
 use fennelrake_tests::random::Random;
 use fennelrake_tests::source::{question, Source, Style, ORDER};
 
@@ -99,9 +99,26 @@ enum Event {
     SearchOfUrgency,
     /// A cancelled message that fills its place has one of the terms.
     SearchPastACancelledOne,
+    /// A threshold is as high as an impact can be.
+    ThresholdAtTheTop,
+    /// A message of kind 7 arrives with no more pairs than kind 6 can say.
+    ArrivalOfFewInKind7,
+    /// A message with more arrives, leaves by age and for N, is cancelled, and is listed; and one with 32 is listed.
+    LongArrival,
+    LongLeavingByAge,
+    LongLeavingForN,
+    LongCancelled,
+    LongListed,
+    LongestListed,
+    /// It reaches a query by pairs past its 16th alone: as it arrives, and as it leaves.
+    ArrivalReachingByLatePairs,
+    LeavingReachingByLatePairs,
+    /// It has such a posting, and is listed by a search that asks for no term of its first 16 pairs.
+    PostingOfALatePair,
+    SearchOfLatePairs,
 }
 
-const EVENTS: [Event; 58] = [
+const EVENTS: [Event; 70] = [
     Event::SerialUsedAgain,
     Event::TwoInOneSecond,
     Event::LeavingAsOneArrives,
@@ -160,10 +177,38 @@ const EVENTS: [Event; 58] = [
     Event::SearchSeeingAgain,
     Event::SearchOfUrgency,
     Event::SearchPastACancelledOne,
+    Event::ThresholdAtTheTop,
+    Event::ArrivalOfFewInKind7,
+    Event::LongArrival,
+    Event::LongLeavingByAge,
+    Event::LongLeavingForN,
+    Event::LongCancelled,
+    Event::LongListed,
+    Event::LongestListed,
+    Event::ArrivalReachingByLatePairs,
+    Event::LeavingReachingByLatePairs,
+    Event::PostingOfALatePair,
+    Event::SearchOfLatePairs,
+];
+
+/// Those for which there have to be more than 16 terms.
+const OF_LONG_MESSAGES: [Event; 10] = [
+    Event::LongArrival,
+    Event::LongLeavingByAge,
+    Event::LongLeavingForN,
+    Event::LongCancelled,
+    Event::LongListed,
+    Event::LongestListed,
+    Event::ArrivalReachingByLatePairs,
+    Event::LeavingReachingByLatePairs,
+    Event::PostingOfALatePair,
+    Event::SearchOfLatePairs,
 ];
 
 struct Met {
     numbers: [usize; 15],
+    /// By which frames of kind 7 were answered.
+    of_kind_7: [usize; 15],
     /// By which searches were answered.
     searched: [usize; 15],
     events: [usize; EVENTS.len()],
@@ -171,7 +216,15 @@ struct Met {
 
 impl Met {
     fn nothing() -> Self {
-        Met { numbers: [0; 15], searched: [0; 15], events: [0; EVENTS.len()] }
+        Met { numbers: [0; 15], of_kind_7: [0; 15], searched: [0; 15], events: [0; EVENTS.len()] }
+    }
+
+    fn add(&mut self, more: &Met) {
+        let sum = |all: &mut [usize], more: &[usize]| all.iter_mut().zip(more).for_each(|(all, more)| *all += more);
+        sum(&mut self.numbers, &more.numbers);
+        sum(&mut self.of_kind_7, &more.of_kind_7);
+        sum(&mut self.searched, &more.searched);
+        sum(&mut self.events, &more.events);
     }
 
     fn note(&mut self, event: Event, met: bool) {
@@ -182,7 +235,9 @@ impl Met {
 /// What an accepted frame did.
 struct Step<'a> {
     f: &'a Frame,
+    before: &'a Lent,
     departed: &'a [Message],
+    arrived: &'a [Message],
     /// Messages cancelled earlier that filled a place until now.
     cleared: Vec<Message>,
     marks: u32,
@@ -222,6 +277,8 @@ impl Passage {
         let queries = self.log.queries.clone();
         let reply = engine::frame(&mut self.state, bytes);
         self.met.numbers[reply.number as usize] += 1;
+        // below five bytes there is no kind yet
+        self.met.of_kind_7[reply.number as usize] += (bytes.len() >= 5 && bytes[0] >> 4 == 7) as usize;
         self.met.note(Event::FrameHandedAgain, self.last == bytes);
         self.last = bytes.to_vec();
         let f = match self.log.judge(bytes) {
@@ -237,14 +294,14 @@ impl Passage {
         let filled = self.log.filled_at(self.log.clock);
         let (departed, arrived) = self.log.accept(&f);
         assert_eq!(reply.departures as usize, departed.len(), "{f:?}");
+        let stay = self.log.filled_at(self.log.clock);
+        let cleared = filled.iter().filter(|i| !stay.contains(i)).map(|&i| self.log.messages[i].clone()).filter(|m| m.cancelled).collect();
+        let step = Step { f: &f, before: &before, departed: &departed, arrived: &arrived, cleared, marks: reply.marks };
         for q in 0..32 {
-            self.compare_marks(q, &f, &before, queries[q].as_ref(), departed.iter().chain(&arrived), reply.marks >> q & 1 == 1);
+            self.compare_marks(q, &step, queries[q].as_ref());
             self.compare_kept(q);
         }
         self.compare_window();
-        let stay = self.log.filled_at(self.log.clock);
-        let cleared = filled.iter().filter(|i| !stay.contains(i)).map(|&i| self.log.messages[i].clone()).filter(|m| m.cancelled).collect();
-        let step = Step { f: &f, departed: &departed, cleared, marks: reply.marks };
         self.note(&step, &queries);
         self.note_cancelled(&step);
         for q in 0..32 {
@@ -296,8 +353,17 @@ impl Passage {
     fn note(&mut self, step: &Step, queries: &[Option<Query>]) {
         let (f, departed, life) = (step.f, step.departed, self.log.life);
         let aged = departed.iter().filter(|m| f.time() - m.time > life).count();
+        for m in departed.iter().filter(|m| is_long(m)) {
+            let aged = f.time() - m.time > life;
+            self.met.note(Event::LongLeavingByAge, aged);
+            self.met.note(Event::LongLeavingForN, !aged && !m.cancelled);
+            self.met.note(Event::LongCancelled, m.cancelled);
+        }
         match f {
-            Frame::Message { serial, time, .. } => {
+            Frame::Message { serial, time, form, .. } => {
+                let long = step.arrived.iter().any(is_long);
+                self.met.note(Event::LongArrival, long);
+                self.met.note(Event::ArrivalOfFewInKind7, !long && matches!(form, Form::Long(_)));
                 let earlier = &self.log.messages[..self.log.messages.len() - 1];
                 self.met.note(Event::SerialUsedAgain, earlier.iter().any(|m| m.serial == *serial));
                 self.met.note(Event::TwoInOneSecond, earlier.last().is_some_and(|m| m.time == *time));
@@ -313,10 +379,9 @@ impl Passage {
             Frame::Drop { number, .. } => self.dropped[*number] = true,
             Frame::Cancel { .. } => {}
         }
-        let moved: Vec<&Message> = departed.iter().chain(self.log.messages.last().filter(|_| matches!(f, Frame::Message { .. }))).collect();
         for q in 0..32 {
             if let (Some(query), false) = (&queries[q], step.is_marked(q)) {
-                self.met.note(Event::Skip, moved.iter().any(|m| m.score(query) > 0));
+                self.met.note(Event::Skip, departed.iter().chain(step.arrived).any(|m| m.score(query) > 0));
             }
         }
     }
@@ -330,7 +395,7 @@ impl Passage {
             return;
         };
         let (k, after) = (query.k, self.log.ranking(query));
-        let arrived = self.log.messages.last().filter(|_| matches!(f, Frame::Message { .. })).map(|m| (m.serial, m.score(query) as u32));
+        let arrived = step.arrived.first().map(|m| (m.serial, m.score(query) as u32));
         let (full, last) = (before.len() == k, before.last().map_or(0, |e| e.1));
         let leaving: Vec<u32> = departed.iter().map(|m| m.serial).filter(|s| before.iter().any(|e| e.0 == *s)).collect();
         let several = leaving.len() > 1 && matches!(f, Frame::Tick { .. });
@@ -364,26 +429,34 @@ impl Passage {
         self.fell_short[q] |= full && after.len() < k;
     }
 
-    fn compare_marks<'a>(&self, q: usize, f: &Frame, before: &Lent, query: Option<&Query>, mut moved: impl Iterator<Item = &'a Message>, marked: bool) {
+    /// The mark of a query, which was this one before the frame.
+    fn compare_marks(&mut self, q: usize, step: &Step, query: Option<&Query>) {
+        let (f, marked) = (step.f, step.is_marked(q));
         let named = matches!(f, Frame::Register { number, .. } | Frame::Drop { number, .. } if *number == q);
-        let reached = match (query, engine::kept(before.bytes(), q)) {
-            (Some(query), Some(kept)) => moved.any(|m| m.exceeds(query, &kept.thresholds)),
-            _ => false,
-        };
+        let mut reached = false;
+        if let (Some(query), Some(kept)) = (query, engine::kept(step.before.bytes(), q)) {
+            let by_late_pairs = |m: &Message| exceeds_by_late_pairs(m, query, &kept.thresholds);
+            reached = step.departed.iter().chain(step.arrived).any(|m| m.exceeds(query, &kept.thresholds));
+            self.met.note(Event::ArrivalReachingByLatePairs, step.arrived.iter().any(by_late_pairs));
+            self.met.note(Event::LeavingReachingByLatePairs, step.departed.iter().any(by_late_pairs));
+        }
         assert_eq!(marked, named || reached, "mark of query {q} by {f:?}");
         if !marked {
-            assert!(engine::record(before.bytes(), q) == engine::record(self.state.bytes(), q), "record of query {q} changed by {f:?}");
+            assert!(engine::record(step.before.bytes(), q) == engine::record(self.state.bytes(), q), "record of query {q} changed by {f:?}");
         }
     }
 
-    /// The slots of the window say which messages fill a place, how urgent they are, and which of them are cancelled.
+    /// The slots of the window say which messages fill a place, how urgent they are, which of them are cancelled, and of each pair term, count and
+    /// impact.
     fn compare_window(&self) {
-        let want = |&i: &usize| {
-            let (m, n) = (&self.log.messages[i], self.log.messages[i].pairs.len() as u32);
-            if m.cancelled { [m.time, m.serial + 1_048_576 * n, 64 * m.urgency] } else { [m.time, m.serial, n + 64 * m.urgency] }
-        };
-        let want: Vec<_> = self.log.filled_at(self.log.clock).iter().map(want).collect();
-        assert_eq!(engine::window(self.state.bytes()).iter().map(|s| s.head).collect::<Vec<_>>(), want, "heads of the slots");
+        let (filled, slots) = (self.log.filled_at(self.log.clock), engine::window(self.state.bytes()));
+        assert_eq!(slots.len(), filled.len(), "slots of the window");
+        for (slot, m) in slots.iter().zip(filled.into_iter().map(|i| &self.log.messages[i])) {
+            let n = m.pairs.len();
+            let cells: Vec<u32> = m.pairs.iter().map(|&(t, c)| t << 22 | c << 14 | m.impact(t) as u32).collect();
+            let (serial, size) = if m.cancelled { (m.serial + 1_048_576 * n as u32, 0) } else { (m.serial, n as u32) };
+            assert_eq!((slot.head, &slot.cells[..n]), ([m.time, serial, size + 64 * m.urgency], &cells[..]), "the slot of {m:?}");
+        }
     }
 
     fn compare_kept(&mut self, q: usize) {
@@ -404,9 +477,14 @@ impl Passage {
         let grades_rise = ranking.windows(2).any(|w| w[0].1 > w[1].1 && grade(&w[0]) < grade(&w[1]));
         self.met.note(Event::UrgentBeforeLater, earlier_first);
         self.met.note(Event::ScoreBeforeUrgency, grades_rise);
+        let pairs = |e: &(u32, u32)| self.log.messages[at(e)].pairs.len();
+        let most = ranking.iter().map(pairs).max();
+        self.met.note(Event::LongListed, most > Some(16));
+        self.met.note(Event::LongestListed, most == Some(32));
         self.met.note(Event::EqualScoresListed, ranking.windows(2).any(|w| w[0].1 == w[1].1));
         self.met.note(Event::ListShort, ranking.len() < query.k);
         self.met.note(Event::ListFull, ranking.len() == query.k);
+        self.met.note(Event::ThresholdAtTheTop, kept.thresholds.iter().any(|&h| h as u64 == TOP));
         let sum: u64 = query.terms.iter().zip(&kept.thresholds).map(|(t, &h)| t.1 as u64 * h as u64).sum();
         if ranking.len() < query.k {
             assert!(kept.thresholds.iter().all(|&h| h == 0), "a short list has thresholds");
@@ -422,8 +500,11 @@ impl Passage {
 
     fn compare_postings(&mut self, term: u32) {
         let want = self.log.postings(term);
-        let grade = |e: &(u32, u32)| self.log.messages[self.log.holder(e.0, self.log.clock).unwrap()].urgency;
-        self.met.note(Event::LaterPostingBeforeUrgent, want.windows(2).any(|w| w[0].1 == w[1].1 && grade(&w[0]) < grade(&w[1])));
+        let of = |e: &(u32, u32)| &self.log.messages[self.log.holder(e.0, self.log.clock).unwrap()];
+        let later_first = want.windows(2).any(|w| w[0].1 == w[1].1 && of(&w[0]).urgency < of(&w[1]).urgency);
+        let late_pair = want.iter().any(|e| of(e).pairs.iter().skip(16).any(|p| p.0 == term));
+        self.met.note(Event::LaterPostingBeforeUrgent, later_first);
+        self.met.note(Event::PostingOfALatePair, late_pair);
         assert_eq!(engine::postings(&self.state, term, 8 * want.len() + 5).as_deref(), Ok(&want[..]), "postings of {term}");
         if !want.is_empty() {
             assert_eq!(engine::postings(&self.state, term, 8 * want.len() - 1), Err(12));
@@ -450,9 +531,22 @@ impl Passage {
             m.score(&q) == log.messages[last.unwrap()].score(&q) && found.list.iter().all(|e| e.0 != m.serial)
         };
         met.note(Event::SearchOfUrgency, last.is_some_and(|at| log.in_force_at(log.clock).iter().filter(|&&i| i > at).any(unlisted_twin)));
+        let by_late_pairs = |e: &(u32, u32)| log.holder(e.0, log.clock).is_some_and(|i| exceeds_by_late_pairs(&log.messages[i], &q, &[0; 8]));
+        met.note(Event::SearchOfLatePairs, found.list.iter().any(by_late_pairs));
         let cancelled = log.filled_at(log.clock).into_iter().map(|i| &log.messages[i]).filter(|m| m.cancelled);
         met.note(Event::SearchPastACancelledOne, cancelled.into_iter().any(|m| m.score(&q) > 0));
     }
+}
+
+/// Whether a message has more pairs than kinds 1 and 6 can say.
+fn is_long(m: &Message) -> bool {
+    m.pairs.len() > 16
+}
+
+/// Whether a message exceeds a threshold, and none in a term of its first 16 pairs.
+fn exceeds_by_late_pairs(m: &Message, q: &Query, thresholds: &[u32]) -> bool {
+    let early = |t: u32| m.pairs.iter().take(16).any(|p| p.0 == t);
+    m.exceeds(q, thresholds) && q.terms.iter().zip(thresholds).all(|(&(t, _), &h)| !early(t) || m.impact(t) <= h as u64)
 }
 
 /// Whether a message has entered the list that was accepted before another of its score which has not.
@@ -495,11 +589,9 @@ fn run_from(start: u32, style: Style, frames: usize, own_seed: u64, ruled_out: &
                 p.compare_search(&bytes, asking.below(32) as usize);
             }
         }
-        met.numbers.iter_mut().zip(p.met.numbers).for_each(|(all, one)| *all += one);
-        met.searched.iter_mut().zip(p.met.searched).for_each(|(all, one)| *all += one);
-        met.events.iter_mut().zip(p.met.events).for_each(|(all, one)| *all += one);
+        met.add(&p.met);
     }
-    println!("numbers met: {:?}, by searches: {:?}", met.numbers, met.searched);
+    println!("numbers met: {:?}, by frames of kind 7: {:?}, by searches: {:?}", met.numbers, met.of_kind_7, met.searched);
     println!("events: {:?}", EVENTS.iter().zip(met.events).collect::<Vec<_>>());
     assert!(met.numbers[0] > rounds as usize * frames / 3, "too few frames were accepted for the test to mean anything: {:?}", met.numbers);
     for number in ORDER {
@@ -509,6 +601,9 @@ fn run_from(start: u32, style: Style, frames: usize, own_seed: u64, ruled_out: &
         for event in EVENTS.into_iter().filter(|e| !ruled_out.contains(e)) {
             assert!(met.events[event as usize] > 0, "{event:?} wasn't met");
         }
+        for number in [0, 3, 4, 14, 5, 6, 7, 8] {
+            assert!(met.of_kind_7[number] > 0, "no frame of kind 7 was answered by {number}: {:?}", met.of_kind_7);
+        }
         for number in 0..=6 {
             assert!(met.searched[number] > 0, "no search was answered by {number}: {:?}", met.searched);
         }
@@ -517,8 +612,9 @@ fn run_from(start: u32, style: Style, frames: usize, own_seed: u64, ruled_out: &
 
 #[test]
 fn ordinary() {
-    let style = Style { capacity: 64, life: 200, terms: 40, counts: 9, serials: 200, queries: 32, entries: 16, step: 2, jump: 60, cancels: 18 };
-    run(style, 6000, 2, &[Event::LeftOutBeforeNewcomer]);
+    let (terms, rare) = (40, 0);
+    let style = Style { capacity: 64, life: 200, terms, rare, counts: 9, serials: 200, queries: 32, entries: 16, step: 2, jump: 60, cancels: 18 };
+    run(style, 6000, 14, &[Event::LeftOutBeforeNewcomer]);
 }
 
 #[test]
@@ -546,15 +642,16 @@ fn one_message_in_force() {
         Event::SearchGoingOnAtTheSum,
         Event::SearchOfUrgency,
     ];
-    let style = Style { capacity: 1, life: 50, terms: 6, counts: 3, serials: 4, queries: 8, entries: 16, step: 4, jump: 10, cancels: 18 };
+    let style = Style { capacity: 1, life: 50, terms: 40, rare: 34, counts: 3, serials: 4, queries: 8, entries: 16, step: 4, jump: 10, cancels: 18 };
     run(style, 1500, 2, &ruled_out);
 }
 
 /// Fewer cancellations than elsewhere: most of the 256 places are to be filled by messages in force.
 #[test]
 fn a_full_ring() {
-    let style = Style { capacity: 256, life: 65535, terms: 12, counts: 4, serials: 1 << 20, queries: 6, entries: 16, step: 1, jump: 400, cancels: 6 };
-    run(style, 6500, 12, &[Event::LeftOutBeforeNewcomer]);
+    let (terms, rare, serials) = (40, 28, 1 << 20);
+    let style = Style { capacity: 256, life: 65535, terms, rare, counts: 4, serials, queries: 6, entries: 16, step: 1, jump: 400, cancels: 6 };
+    run(style, 6500, 11, &[Event::LeftOutBeforeNewcomer]);
 }
 
 #[test]
@@ -571,43 +668,48 @@ fn one_second_of_life() {
         Event::LaterPostingBeforeUrgent,
         Event::SearchGoingOnAtTheSum,
         Event::SearchOfUrgency,
+        Event::LongLeavingForN,
     ];
-    let style = Style { capacity: 256, life: 1, terms: 8, counts: 3, serials: 60, queries: 12, entries: 16, step: 1, jump: 10, cancels: 18 };
+    let (terms, rare) = (40, 32);
+    let style = Style { capacity: 256, life: 1, terms, rare, counts: 3, serials: 60, queries: 12, entries: 16, step: 1, jump: 10, cancels: 18 };
     run(style, 2000, 4, &ruled_out);
 }
 
 #[test]
 fn ties() {
-    let style = Style { capacity: 40, life: 300, terms: 2, counts: 1, serials: 120, queries: 10, entries: 16, step: 2, jump: 60, cancels: 18 };
-    run(style, 8000, 8, &[]);
+    let (terms, rare) = (2, 0);
+    let style = Style { capacity: 40, life: 300, terms, rare, counts: 1, serials: 120, queries: 10, entries: 16, step: 2, jump: 60, cancels: 18 };
+    run(style, 8000, 15, &OF_LONG_MESSAGES);
 }
 
 #[test]
 fn extreme_counts() {
     let (capacity, life, serials) = (100, 1000, 1 << 20);
-    let style = Style { capacity, life, terms: 1024, counts: 255, serials, queries: 32, entries: 16, step: 6, jump: 60, cancels: 18 };
-    run(style, 8000, 18, &[Event::LeftOutBeforeNewcomer]);
+    let style = Style { capacity, life, terms: 1024, rare: 0, counts: 255, serials, queries: 32, entries: 16, step: 6, jump: 60, cancels: 18 };
+    run(style, 8000, 7, &[Event::LeftOutBeforeNewcomer]);
 }
 
 /// The clock's last second comes about half way, and there it stays.
 #[test]
 fn up_to_the_clocks_end() {
-    let style = Style { capacity: 30, life: 90, terms: 10, counts: 4, serials: 300, queries: 12, entries: 16, step: 3, jump: 30, cancels: 18 };
-    run_from(u32::MAX - 6000, style, 6000, 3, &[Event::LeftOutBeforeNewcomer]);
+    let (terms, rare) = (40, 30);
+    let style = Style { capacity: 30, life: 90, terms, rare, counts: 4, serials: 300, queries: 12, entries: 16, step: 3, jump: 30, cancels: 18 };
+    run_from(u32::MAX - 6000, style, 6000, 8, &[Event::LeftOutBeforeNewcomer]);
 }
 
 /// As many cancellations as messages, of few serials: most places are filled by cancelled messages, several often of one serial.
 #[test]
 fn cancelled_as_often_as_sent() {
-    let style = Style { capacity: 20, life: 60, terms: 6, counts: 4, serials: 30, queries: 12, entries: 16, step: 2, jump: 30, cancels: 18 };
+    let (terms, rare) = (40, 34);
+    let style = Style { capacity: 20, life: 60, terms, rare, counts: 4, serials: 30, queries: 12, entries: 16, step: 2, jump: 30, cancels: 18 };
     run(style, 4000, 3, &[Event::LeftOutBeforeNewcomer]);
 }
 
 /// Short lists of few messages, which have two terms at most, once each: most scores are equal, and urgencies decide who is listed.
 #[test]
 fn urgencies_decide() {
-    let style = Style { capacity: 12, life: 60, terms: 2, counts: 1, serials: 40, queries: 8, entries: 4, step: 2, jump: 30, cancels: 9 };
-    run(style, 6000, 5, &[]);
+    let style = Style { capacity: 12, life: 60, terms: 2, rare: 0, counts: 1, serials: 40, queries: 8, entries: 4, step: 2, jump: 30, cancels: 9 };
+    run(style, 6000, 5, &OF_LONG_MESSAGES);
 }
 
 /// One term: every score for a query is the same, so only urgency and order of acceptance are left.
@@ -621,24 +723,25 @@ fn one_score() {
         Event::SearchEnding,
         Event::SearchOfTiedTerms,
         Event::SearchSeeingAgain,
+        Event::ThresholdAtTheTop,
     ];
-    let style = Style { capacity: 9, life: 40, terms: 1, counts: 3, serials: 30, queries: 6, entries: 4, step: 2, jump: 30, cancels: 9 };
-    run(style, 4000, 9, &ruled_out);
+    let style = Style { capacity: 9, life: 40, terms: 1, rare: 0, counts: 3, serials: 30, queries: 6, entries: 4, step: 2, jump: 30, cancels: 9 };
+    run(style, 4000, 9, &[&ruled_out[..], &OF_LONG_MESSAGES].concat());
 }
 
 // ---- passages by hand: every message has term 5 once, mostly alone, and query 0, where there is one, lists the best 16 by it
 
 fn message(time: u32, serial: u32) -> Vec<u8> {
-    graded(time, serial, None)
+    graded(time, serial, Form::Plain)
 }
 
-fn graded(time: u32, serial: u32, urgency: Option<u32>) -> Vec<u8> {
-    Frame::Message { time, serial, urgency, pairs: vec![(5, 1)] }.bytes()
+fn graded(time: u32, serial: u32, form: Form) -> Vec<u8> {
+    Frame::Message { time, serial, form, pairs: vec![(5, 1)] }.bytes()
 }
 
 /// With term 6 beside it, and so of a lower score.
-fn lower(time: u32, serial: u32, urgency: Option<u32>) -> Vec<u8> {
-    Frame::Message { time, serial, urgency, pairs: vec![(5, 1), (6, 1)] }.bytes()
+fn lower(time: u32, serial: u32, form: Form) -> Vec<u8> {
+    Frame::Message { time, serial, form, pairs: vec![(5, 1), (6, 1)] }.bytes()
 }
 
 fn tick(time: u32) -> Vec<u8> {
@@ -783,28 +886,32 @@ fn follow(rows: &[Row]) {
     let mut p = Passage::new(3, 100);
     for &(frame, number, departures, list) in rows {
         let bytes: Vec<u8> = (0..frame.len()).step_by(2).map(|i| u8::from_str_radix(&frame[i..i + 2], 16).unwrap()).collect();
-        let reply = p.hand(&bytes);
-        assert_eq!((reply.number, reply.departures), (number, departures), "{frame}");
-        assert_eq!(engine::list(&p.state, 0).as_deref(), Ok(list), "{frame}");
+        assert_step(&mut p, &bytes, number, departures, list);
     }
+}
+
+fn assert_step(p: &mut Passage, bytes: &[u8], number: u32, departures: u32, list: &[(u32, u32)]) {
+    let reply = p.hand(bytes);
+    assert_eq!((reply.number, reply.departures), (number, departures), "{bytes:02x?}");
+    assert_eq!(engine::list(&p.state, 0).as_deref(), Ok(list), "{bytes:02x?}");
 }
 
 #[test]
 fn a_passage_with_cancellations() {
     follow(&[
         ("30000000000901440920", 0, 0, &[]),
-        ("10000000a0000110140c0904", 0, 0, &[(1, 2200)]),
-        ("10000001400002001404", 0, 0, &[(1, 2200), (2, 1000)]),
-        ("10000001e000031024042801", 0, 0, &[(1, 2200), (3, 1414)]),
-        ("50000002800001", 0, 1, &[(3, 1414), (2, 1000)]),
-        ("50000002800001", 13, 0, &[(3, 1414), (2, 1000)]),
+        ("10000000a0000110140c0904", 0, 0, &[(1, 4400)]),
+        ("10000001400002001404", 0, 0, &[(1, 4400), (2, 2000)]),
+        ("10000001e000031024042801", 0, 0, &[(1, 4400), (3, 2828)]),
+        ("50000002800001", 0, 1, &[(3, 2828), (2, 2000)]),
+        ("50000002800001", 13, 0, &[(3, 2828), (2, 2000)]),
         // serial 1 again; the cancelled message leaves for N, which is no departure
-        ("10000002900001001404", 0, 0, &[(3, 1414), (1, 1000)]),
-        ("10000002a00004002404", 0, 1, &[(4, 2000), (3, 1414)]),
-        ("50000002700003", 7, 0, &[(4, 2000), (3, 1414)]),
+        ("10000002900001001404", 0, 0, &[(3, 2828), (1, 2000)]),
+        ("10000002a00004002404", 0, 1, &[(4, 4000), (3, 2828)]),
+        ("50000002700003", 7, 0, &[(4, 4000), (3, 2828)]),
         // serial 3, which arrived at 30, is past at 131; the clock stays
-        ("50000008300003", 13, 0, &[(4, 2000), (3, 1414)]),
-        ("20000008e0", 0, 2, &[(4, 2000)]),
+        ("50000008300003", 13, 0, &[(4, 4000), (3, 2828)]),
+        ("20000008e0", 0, 2, &[(4, 4000)]),
     ]);
 }
 
@@ -902,11 +1009,11 @@ fn cancelled_as_others_age() {
 #[test]
 fn the_greatest_serial_cancelled() {
     const LAST: u32 = 1_048_575;
-    let mut p = watched(20, 100);
+    let mut p = watched(40, 100);
     p.hand(&message(10, 0));
-    for n in 1..=16 {
-        let pairs = (0..n).map(|i| (5 + 60 * i, 255)).collect();
-        p.hand(&Frame::Message { time: 10, serial: LAST, urgency: None, pairs }.bytes());
+    for n in 1..=32 {
+        let pairs = (0..n).map(|i| (5 + 30 * i, 255)).collect();
+        p.hand(&Frame::Message { time: 10, serial: LAST, form: routine(n as usize), pairs }.bytes());
         assert_eq!(p.hand(&message(10, LAST)).number, 8);
         assert_eq!(done(&mut p, &cancel(10, LAST)), (1, 1, vec![0]), "{n} pairs");
     }
@@ -933,34 +1040,34 @@ fn cancelled_in_a_full_window() {
 #[test]
 fn cancelled_below_the_threshold() {
     let mut p = listing(8, 1);
-    p.hand(&lower(10, 1, None));
-    p.hand(&lower(10, 2, None));
+    p.hand(&lower(10, 1, Form::Plain));
+    p.hand(&lower(10, 2, Form::Plain));
     p.hand(&message(10, 3));
     p.hand(&message(10, 4));
     assert_eq!(done(&mut p, &cancel(10, 1)), (1, 0, vec![4]));
     assert_eq!(done(&mut p, &cancel(10, 3)), (1, 1, vec![4]));
     assert_eq!(done(&mut p, &cancel(10, 4)), (1, 1, vec![2]));
-    assert_eq!(engine::list(&p.state, 0), Ok(vec![(2, 707)]));
+    assert_eq!(engine::list(&p.state, 0), Ok(vec![(2, 1414)]));
 }
 
 // ---- urgencies
 
-const ROUTINE: Option<u32> = Some(0);
-const IMPORTANT: Option<u32> = Some(1);
-const VITAL: Option<u32> = Some(2);
+const ROUTINE: Form = Form::Graded(0);
+const IMPORTANT: Form = Form::Graded(1);
+const VITAL: Form = Form::Graded(2);
 
 #[test]
 fn a_passage_with_urgencies() {
     follow(&[
         ("3000000000080144", 0, 0, &[]),
-        ("60000000a00001800501", 0, 0, &[(1, 1000)]),
+        ("60000000a00001800501", 0, 0, &[(1, 2000)]),
         // of kind 1: routine, and so behind the vital one though it is later
-        ("10000001400002001404", 0, 0, &[(1, 1000), (2, 1000)]),
-        ("60000001e00003400501", 0, 0, &[(1, 1000), (3, 1000)]),
+        ("10000001400002001404", 0, 0, &[(1, 2000), (2, 2000)]),
+        ("60000001e00003400501", 0, 0, &[(1, 2000), (3, 2000)]),
         // of kind 6, and routine too: serial 1 leaves for N
-        ("60000001e00004000501", 0, 1, &[(3, 1000), (4, 1000)]),
+        ("60000001e00004000501", 0, 1, &[(3, 2000), (4, 2000)]),
         // urgency 3 and a count of 0
-        ("60000000a00001c00500", 14, 0, &[(3, 1000), (4, 1000)]),
+        ("60000000a00001c00500", 14, 0, &[(3, 2000), (4, 2000)]),
     ]);
 }
 
@@ -975,18 +1082,18 @@ fn one_left_out_before_a_newcomer() {
     assert_eq!(done(&mut p, &message(40, 4)), (1, 1, vec![3, 2]));
     assert_eq!(done(&mut p, &lower(50, 5, VITAL)), (1, 1, vec![3, 4]));
     assert_eq!(done(&mut p, &cancel(60, 3)), (1, 1, vec![4, 5]));
-    assert_eq!(engine::list(&p.state, 0), Ok(vec![(4, 1000), (5, 707)]));
+    assert_eq!(engine::list(&p.state, 0), Ok(vec![(4, 2000), (5, 1414)]));
 }
 
 /// Every five messages of any urgency or of kind 1, with lists of up to three and one place fewer than messages; then each list's first is cancelled
 /// until none is left.
 #[test]
 fn every_order_of_urgencies() {
-    const KINDS: [Option<u32>; 4] = [None, ROUTINE, IMPORTANT, VITAL];
+    const FORMS: [Form; 4] = [Form::Plain, ROUTINE, IMPORTANT, VITAL];
     for (order, k) in (0..4usize.pow(5)).flat_map(|order| [1, 2, 3].map(|k| (order, k))) {
         let mut p = listing(4, k);
         for i in 0..5 {
-            assert_eq!(p.hand(&graded(i, i, KINDS[order / 4usize.pow(i) % 4])).number, 0);
+            assert_eq!(p.hand(&graded(i, i, FORMS[order / 4usize.pow(i) % 4])).number, 0);
         }
         p.compare_postings(5);
         while let Some(&first) = listed(&p).first() {
@@ -1000,7 +1107,7 @@ fn every_order_of_urgencies() {
 fn routine_in_both_kinds() {
     let (mut plain, mut routine) = (listing(3, 2), listing(3, 2));
     for i in 0..300 {
-        let (a, b) = (plain.hand(&graded(i, i, None)), routine.hand(&graded(i, i, ROUTINE)));
+        let (a, b) = (plain.hand(&graded(i, i, Form::Plain)), routine.hand(&graded(i, i, ROUTINE)));
         assert_eq!(a, b);
         assert!(plain.state.bytes() == routine.state.bytes(), "the states differ after message {i}");
     }
@@ -1011,8 +1118,8 @@ fn routine_in_both_kinds() {
 fn urgencies_of_slots_used_again() {
     let mut p = listing(3, 2);
     for i in 0..600 {
-        let urgency = [VITAL, None, IMPORTANT, ROUTINE, VITAL, IMPORTANT, None][i as usize % 7];
-        p.hand(&graded(i, i, urgency));
+        let form = [VITAL, Form::Plain, IMPORTANT, ROUTINE, VITAL, IMPORTANT, Form::Plain][i as usize % 7];
+        p.hand(&graded(i, i, form));
         if i % 5 == 0 {
             assert_eq!(p.hand(&cancel(i, i)).number, 0);
             assert_eq!(p.hand(&graded(i, i, [ROUTINE, VITAL][i as usize % 2])).number, 0);
@@ -1024,11 +1131,11 @@ fn urgencies_of_slots_used_again() {
 #[test]
 fn postings_whatever_the_urgency() {
     let mut p = watched(8, 100);
-    for (serial, urgency) in [VITAL, IMPORTANT, ROUTINE, IMPORTANT, None, VITAL].into_iter().enumerate() {
-        p.hand(&graded(10, serial as u32, urgency));
+    for (serial, form) in [VITAL, IMPORTANT, ROUTINE, IMPORTANT, Form::Plain, VITAL].into_iter().enumerate() {
+        p.hand(&graded(10, serial as u32, form));
     }
     assert_eq!(listed(&p), [5, 0, 3, 1, 4, 2]);
-    assert_eq!(engine::postings(&p.state, 5, 48), Ok((0..6).rev().map(|s| (s, 1000)).collect()));
+    assert_eq!(engine::postings(&p.state, 5, 48), Ok((0..6).rev().map(|s| (s, 2000)).collect()));
 }
 
 /// With k 1 and weight 1 the only tight threshold is one below the listed score. A message of that score is above it and marks the query, be it
@@ -1045,15 +1152,96 @@ fn marks_whatever_the_urgency() {
     assert_eq!(done(&mut p, &cancel(10, 4)), (1, 1, vec![1]));
 }
 
+// ---- long messages
+
+/// Terms 0 to n - 1, counted once each, in a message of kind 7.
+fn long(time: u32, serial: u32, urgency: u32, n: u32) -> Vec<u8> {
+    Frame::Message { time, serial, form: Form::Long(urgency), pairs: (0..n).map(|t| (t, 1)).collect() }.bytes()
+}
+
+/// The query asks for terms that stand 17th and 32nd in a message that has them: 32 pairs score 3 × 353, and 17 and 31, which have the first alone,
+/// 485 and 359. Messages leave for N, by age, and by a cancellation.
+#[test]
+fn a_passage_with_long_messages() {
+    let mut p = Passage::new(3, 100);
+    p.hand(&Frame::Register { time: 0, number: 0, k: 2, terms: vec![(16, 1), (31, 2)] }.bytes());
+    for (bytes, number, departures, list) in [
+        (long(10, 1, 0, 32), 0, 0, &[(1, 1059)][..]),
+        (long(20, 2, 0, 17), 0, 0, &[(1, 1059), (2, 485)]),
+        (long(20, 2, 0, 32), 8, 0, &[(1, 1059), (2, 485)]),
+        (long(30, 3, 2, 16), 0, 0, &[(1, 1059), (2, 485)]),
+        (long(40, 4, 2, 32), 0, 1, &[(4, 1059), (2, 485)]),
+        (long(41, 5, 0, 32), 0, 1, &[(4, 1059), (5, 1059)]),
+        (cancel(42, 4), 0, 1, &[(5, 1059)]),
+        (long(43, 4, 1, 31), 0, 1, &[(5, 1059), (4, 359)]),
+        (tick(142), 0, 1, &[(4, 359)]),
+        (tick(144), 0, 1, &[]),
+    ] {
+        assert_step(&mut p, &bytes, number, departures, list);
+        (0..33).for_each(|term| p.compare_postings(term));
+    }
+}
+
+/// A random log in kind 6 and, message by message with the same urgency and pairs, in kind 7: neither a reply nor a byte of the state tells them
+/// apart.
+#[test]
+fn up_to_16_pairs_in_both_kinds() {
+    let style = Style { capacity: 20, life: 60, terms: 30, rare: 0, counts: 9, serials: 60, queries: 12, entries: 8, step: 2, jump: 30, cancels: 9 };
+    let (mut source, mut six, mut seven) = (Source::new(style, 1), Passage::new(20, 60), Passage::new(20, 60));
+    let mut accepted = 0;
+    for _ in 0..3000 {
+        let bytes = source.next(&six.log);
+        let (a, b) = match Frame::read(&bytes) {
+            Ok(Frame::Message { time, serial, form, mut pairs }) => {
+                pairs.truncate(16);
+                let urgency = form.urgency();
+                let graded = Frame::Message { time, serial, form: Form::Graded(urgency), pairs: pairs.clone() };
+                let reply = six.hand(&graded.bytes());
+                accepted += (reply.number == 0) as usize;
+                (reply, seven.hand(&Frame::Message { time, serial, form: Form::Long(urgency), pairs }.bytes()))
+            }
+            _ => (six.hand(&bytes), seven.hand(&bytes)),
+        };
+        assert_eq!(a, b, "{bytes:02x?}");
+        assert!(six.state.bytes() == seven.state.bytes(), "the states differ after {bytes:02x?}");
+    }
+    assert!(accepted > 1000, "hardly a message was taken in: {accepted}");
+}
+
 // ---- impacts
+
+/// The worked impacts C1 to C3, and those of messages with 32 pairs, as postings of each term; in every form that can say so many pairs.
+#[test]
+fn worked_impacts() {
+    let beside = |one: u32, many: u32, others: usize| std::iter::once(one).chain(std::iter::repeat_n(many, others)).collect::<Vec<u32>>();
+    for (counts, impacts) in [
+        (vec![3, 4], vec![1200, 1600]),
+        (vec![1, 1], vec![1414, 1414]),
+        (vec![1, 2], vec![894, 1788]),
+        (vec![255], vec![2000]),
+        (beside(1, 255, 15), beside(2, 516, 15)),
+        (vec![255; 32], vec![353; 32]),
+        (beside(1, 255, 31), beside(1, 359, 31)),
+    ] {
+        for form in [Form::Plain, VITAL, Form::Long(2)].into_iter().filter(|f| counts.len() <= f.most()) {
+            let mut p = Passage::new(1, 100);
+            let pairs = counts.iter().zip(5..).map(|(&count, term)| (term, count)).collect();
+            assert_eq!(p.hand(&Frame::Message { time: 0, serial: 7, form, pairs }.bytes()).number, 0);
+            for (&impact, term) in impacts.iter().zip(5..) {
+                assert_eq!(engine::postings(&p.state, term, 8), Ok(vec![(7, impact)]), "term {term} of {counts:?}");
+            }
+        }
+    }
+}
 
 /// The impact of a term that a message has f times, beside so many others that it has g times each, by the rule itself: each in N 1, so alone.
 fn assert_impacts(others: u32, counts: impl Iterator<Item = (u32, u32)>) {
     let mut state = Lent::new(&[0; STATE]);
     assert_eq!(engine::start(&mut state, 1, 1), 0);
     for (serial, (f, g)) in counts.enumerate() {
-        let pairs = std::iter::once((5, f)).chain((0..others).map(|i| (6 + i, g))).collect();
-        assert_eq!(engine::frame(&mut state, &Frame::Message { time: 0, serial: serial as u32, urgency: None, pairs }.bytes()).number, 0);
+        let pairs: Vec<(u32, u32)> = std::iter::once((5, f)).chain((0..others).map(|i| (6 + i, g))).collect();
+        let message = Frame::Message { time: 0, serial: serial as u32, form: routine(pairs.len()), pairs };
+        assert_eq!(engine::frame(&mut state, &message.bytes()).number, 0);
         let [(_, impact)] = engine::postings(&state, 5, 8).unwrap()[..] else { panic!("term 5 has one posting") };
         let (w, n, reach) = (impact as u64, (f * f + others * g * g) as u64, TOP * f as u64);
         assert!(w * w * n <= reach * reach && reach * reach < (w + 1) * (w + 1) * n, "{w} for {f} beside {others} of {g}");
@@ -1063,7 +1251,7 @@ fn assert_impacts(others: u32, counts: impl Iterator<Item = (u32, u32)>) {
 #[test]
 fn impacts_of_every_two_counts() {
     assert_impacts(0, (1..=255).map(|f| (f, 0)));
-    for others in [1, 15] {
+    for others in [1, 15, 31] {
         assert_impacts(others, (1..=255).flat_map(|f| (1..=255).map(move |g| (f, g))));
     }
 }

@@ -3,7 +3,7 @@
 
 use fennelrake_tests::compare;
 use fennelrake_tests::engine::{self, word, Lent, FRAME_ANSWER, LIST_ANSWER, SEARCH_ANSWER, STATE};
-use fennelrake_tests::paper::{asked, Frame, Log, Query};
+use fennelrake_tests::paper::{asked, routine, Form, Frame, Log, Query};
 use fennelrake_tests::random::Random;
 
 type Pairs<'a> = &'a [(u32, u32)];
@@ -31,7 +31,7 @@ impl Board {
     /// N 256 and T 1,000, with a message a second from serial 1 on.
     fn of(messages: &[Pairs]) -> Self {
         let mut b = Board::new(256, 1000);
-        messages.iter().for_each(|pairs| b.message(None, pairs));
+        messages.iter().for_each(|pairs| b.message(routine(pairs.len()), pairs));
         b
     }
 
@@ -42,9 +42,9 @@ impl Board {
     }
 
     /// The next message, a second later; its serial is its turn, from 1 on.
-    fn message(&mut self, urgency: Option<u32>, pairs: Pairs) {
+    fn message(&mut self, form: Form, pairs: Pairs) {
         let (time, serial) = (self.log.clock + 1, self.log.messages.len() as u32 + 1);
-        self.take(Frame::Message { time, serial, urgency, pairs: pairs.to_vec() });
+        self.take(Frame::Message { time, serial, form, pairs: pairs.to_vec() });
     }
 
     fn cancel(&mut self, serial: u32) {
@@ -62,7 +62,7 @@ fn c10() -> Board {
     let mut b = Board::new(3, 100);
     b.take(Frame::Register { time: 0, number: 0, k: 2, terms: vec![(5, 1), (9, 2)] });
     for (time, serial, pairs) in [(10, 1, &[(5, 3), (9, 4)][..]), (20, 2, &[(5, 1)]), (30, 3, &[(9, 1), (40, 1)]), (40, 4, &[(5, 1), (6, 2)])] {
-        b.take(Frame::Message { time, serial, urgency: None, pairs: pairs.to_vec() });
+        b.take(Frame::Message { time, serial, form: Form::Plain, pairs: pairs.to_vec() });
     }
     b
 }
@@ -73,30 +73,30 @@ fn c10() -> Board {
 fn worked() {
     let b = c10();
     let both = &[(5, 1), (9, 2)];
-    assert_eq!(b.search(1, both), (1, vec![(3, 1414)]));
-    assert_eq!(b.search(2, both), (2, vec![(3, 1414), (2, 1000)]));
-    assert_eq!(b.search(3, both), (3, vec![(3, 1414), (2, 1000), (4, 447)]));
-    assert_eq!(b.search(2, &[(40, 1)]), (1, vec![(3, 707)]));
+    assert_eq!(b.search(1, both), (1, vec![(3, 2828)]));
+    assert_eq!(b.search(2, both), (2, vec![(3, 2828), (2, 2000)]));
+    assert_eq!(b.search(3, both), (3, vec![(3, 2828), (2, 2000), (4, 894)]));
+    assert_eq!(b.search(2, &[(40, 1)]), (1, vec![(3, 1414)]));
     assert_eq!(b.search(1, &[(7, 1)]), (0, vec![]));
     let b = Board::of(&[&[(5, 1)], &[(9, 1)]]);
-    assert_eq!(b.search(1, &[(5, 1), (9, 1)]), (2, vec![(2, 1000)]));
+    assert_eq!(b.search(1, &[(5, 1), (9, 1)]), (2, vec![(2, 2000)]));
     let b = Board::of(&[&[(5, 1), (9, 1)], &[(9, 1), (40, 1)]]);
-    assert_eq!(b.search(1, &[(5, 1), (9, 1)]), (1, vec![(1, 1414)]));
-    assert_eq!(b.search(2, &[(5, 1), (9, 1)]), (3, vec![(1, 1414), (2, 707)]));
+    assert_eq!(b.search(1, &[(5, 1), (9, 1)]), (1, vec![(1, 2828)]));
+    assert_eq!(b.search(2, &[(5, 1), (9, 1)]), (3, vec![(1, 2828), (2, 1414)]));
     let b = Board::of(&[&[(5, 1), (9, 1)], &[(40, 1)]]);
-    assert_eq!(b.search(2, &[(5, 2), (9, 2), (40, 1)]), (3, vec![(1, 2828), (2, 1000)]));
+    assert_eq!(b.search(2, &[(5, 2), (9, 2), (40, 1)]), (3, vec![(1, 5656), (2, 2000)]));
 }
 
 /// Every byte of an answer: 34 numbers of four bytes, the most significant first; those past it stay.
 #[test]
 fn the_answer() {
     let mut b = Board::new(8, 100);
-    b.take(Frame::Message { time: 10, serial: 0xa_bcde, urgency: Some(2), pairs: vec![(5, 1)] });
-    b.take(Frame::Message { time: 10, serial: 0x1_0203, urgency: None, pairs: vec![(5, 1), (6, 1)] });
+    b.take(Frame::Message { time: 10, serial: 0xa_bcde, form: Form::Graded(2), pairs: vec![(5, 1)] });
+    b.take(Frame::Message { time: 10, serial: 0x1_0203, form: Form::Plain, pairs: vec![(5, 1), (6, 1)] });
     let mut answer = Lent::new(&[0x3c; SEARCH_ANSWER + 7]);
     assert_eq!(engine::search_into(&b.state, &ask(16, &[(5, 15), (6, 15)]), &mut answer), 0);
     let mut want = vec![0; SEARCH_ANSWER];
-    let (serials, scores) = ([[0, 1, 2, 3], [0, 0xa, 0xbc, 0xde]], [[0, 0, 0x52, 0xda], [0, 0, 0x3a, 0x98]]);
+    let (serials, scores) = ([[0, 1, 2, 3], [0, 0xa, 0xbc, 0xde]], [[0, 0, 0xa5, 0xb4], [0, 0, 0x75, 0x30]]);
     for (place, bytes) in [(0, [0, 0, 0, 2]), (1, serials[0]), (2, serials[1]), (17, scores[0]), (18, scores[1]), (33, [0, 0, 0, 3])] {
         want[4 * place..4 * place + 4].copy_from_slice(&bytes);
     }
@@ -117,45 +117,45 @@ fn the_answer() {
 fn tied_terms() {
     // message 1 is the only one of term 5, and the last of term 9
     let b = Board::of(&[&[(5, 1), (9, 1)], &[(9, 1), (40, 1)]]);
-    assert_eq!(b.search(1, &[(5, 1), (9, 1)]), (1, vec![(1, 1414)]));
+    assert_eq!(b.search(1, &[(5, 1), (9, 1)]), (1, vec![(1, 2828)]));
     // the same with the terms changed over: the lower one has the other message before it
     let b = Board::of(&[&[(5, 1), (9, 1)], &[(5, 1), (40, 1)]]);
-    assert_eq!(b.search(1, &[(5, 1), (9, 1)]), (2, vec![(1, 1414)]));
+    assert_eq!(b.search(1, &[(5, 1), (9, 1)]), (2, vec![(1, 2828)]));
     // of three tied terms the first is read on as long as its next posting is as high as theirs: message 1 comes second in it
     let b = Board::of(&[&[(5, 1), (9, 1), (40, 1)], &[(5, 1), (9, 1), (50, 1)]]);
-    assert_eq!(b.search(1, &[(5, 1), (9, 1), (40, 1)]), (2, vec![(1, 1731)]));
+    assert_eq!(b.search(1, &[(5, 1), (9, 1), (40, 1)]), (2, vec![(1, 3462)]));
 }
 
-/// It is weight × impact that is compared, and not the impact or the weight: 2 × 500 is 1 × 1000, and both are less than 3 × 447.
+/// It is weight × impact that is compared, and not the impact or the weight: 2 × 1000 is 1 × 2000, and both are less than 3 × 894.
 #[test]
 fn products() {
     let four = &[(9, 1), (20, 1), (21, 1), (22, 1)][..];
     let b = Board::of(&[&[(5, 1)], four]);
-    assert_eq!(b.search(1, &[(5, 1), (9, 2)]), (2, vec![(2, 1000)]));
+    assert_eq!(b.search(1, &[(5, 1), (9, 2)]), (2, vec![(2, 2000)]));
     let b = Board::of(&[four, &[(5, 1)]]);
-    assert_eq!(b.search(1, &[(5, 1), (9, 2)]), (2, vec![(2, 1000)]));
-    // 1341 of term 7 comes first and isn't above the 2000 to come; after term 5 there is only 1000
+    assert_eq!(b.search(1, &[(5, 1), (9, 2)]), (2, vec![(2, 2000)]));
+    // 2682 of term 7 comes first and isn't above the 4000 to come; after term 5 there is only 2000
     let b = Board::of(&[&[(5, 1)], four, &[(7, 1), (30, 2)]]);
-    assert_eq!(b.search(1, &[(5, 1), (7, 3), (9, 2)]), (2, vec![(3, 1341)]));
-    assert_eq!(b.search(1, &[(7, 3), (9, 1)]), (1, vec![(3, 1341)]));
-    assert_eq!(b.search(1, &[(7, 1), (9, 1)]), (1, vec![(2, 500)]));
+    assert_eq!(b.search(1, &[(5, 1), (7, 3), (9, 2)]), (2, vec![(3, 2682)]));
+    assert_eq!(b.search(1, &[(7, 3), (9, 1)]), (1, vec![(3, 2682)]));
+    assert_eq!(b.search(1, &[(7, 1), (9, 1)]), (1, vec![(2, 1000)]));
 }
 
 /// A k-th score that is the sum of the next postings doesn't end the search; one more does.
 #[test]
 fn a_score_that_is_the_sum() {
-    // 1000 after the first posting, and 500 + 500 to come
+    // 2000 after the first posting, and 1000 + 1000 to come
     let (fives, nines) = (&[(5, 1), (20, 1), (21, 1), (22, 1)][..], &[(9, 1), (20, 1), (21, 1), (22, 1)][..]);
     let b = Board::of(&[&[(5, 1)], fives, nines]);
-    assert_eq!(b.search(1, &[(5, 1), (9, 1)]), (2, vec![(1, 1000)]));
-    // 2000, and 2 × 500 + 500 to come
-    assert_eq!(b.search(1, &[(5, 2), (9, 1)]), (1, vec![(1, 2000)]));
+    assert_eq!(b.search(1, &[(5, 1), (9, 1)]), (2, vec![(1, 2000)]));
+    // 4000, and 2 × 1000 + 1000 to come
+    assert_eq!(b.search(1, &[(5, 2), (9, 1)]), (1, vec![(1, 4000)]));
     // the second best score is it, too
     let b = Board::of(&[&[(5, 1)], &[(5, 1)], fives, nines]);
-    assert_eq!(b.search(2, &[(5, 1), (9, 1)]), (3, vec![(2, 1000), (1, 1000)]));
+    assert_eq!(b.search(2, &[(5, 1), (9, 1)]), (3, vec![(2, 2000), (1, 2000)]));
     // a newer message of the same score is in a posting yet to be read
     let b = Board::of(&[&[(5, 1)], &[(9, 1)], &[(9, 1)]]);
-    assert_eq!(b.search(1, &[(5, 1), (9, 1)]), (3, vec![(3, 1000)]));
+    assert_eq!(b.search(1, &[(5, 1), (9, 1)]), (3, vec![(3, 2000)]));
 }
 
 /// One term: as many postings as the list has entries, and those that equal the last; with all of them equal, all.
@@ -170,10 +170,10 @@ fn one_term() {
         assert_eq!(list.iter().map(|e| e.0).collect::<Vec<_>>(), (1..=k as u32).collect::<Vec<_>>());
     }
     let b = Board::of(&[&[(5, 1)], &[(5, 1), (6, 1)], &[(5, 2), (6, 2)], &[(5, 3)], &[(5, 9)]]);
-    assert_eq!(b.search(1, &[(5, 1)]), (3, vec![(5, 1000)]));
-    assert_eq!(b.search(3, &[(5, 1)]), (3, vec![(5, 1000), (4, 1000), (1, 1000)]));
-    assert_eq!(b.search(4, &[(5, 1)]), (5, vec![(5, 1000), (4, 1000), (1, 1000), (3, 707)]));
-    assert_eq!(b.search(1, &[(6, 1)]), (2, vec![(3, 707)]));
+    assert_eq!(b.search(1, &[(5, 1)]), (3, vec![(5, 2000)]));
+    assert_eq!(b.search(3, &[(5, 1)]), (3, vec![(5, 2000), (4, 2000), (1, 2000)]));
+    assert_eq!(b.search(4, &[(5, 1)]), (5, vec![(5, 2000), (4, 2000), (1, 2000), (3, 1414)]));
+    assert_eq!(b.search(1, &[(6, 1)]), (2, vec![(3, 1414)]));
 }
 
 /// Fewer messages than k: every posting is read, and the list has every message that has one of the terms.
@@ -181,24 +181,24 @@ fn one_term() {
 fn k_above_the_messages() {
     let b = Board::of(&[&[(5, 1), (9, 1)], &[(9, 1)], &[(40, 1)]]);
     for k in 4..=16 {
-        assert_eq!(b.search(k, &[(5, 1), (9, 1)]), (3, vec![(1, 1414), (2, 1000)]));
-        assert_eq!(b.search(k, &[(5, 1), (9, 1), (40, 1)]), (4, vec![(1, 1414), (3, 1000), (2, 1000)]));
+        assert_eq!(b.search(k, &[(5, 1), (9, 1)]), (3, vec![(1, 2828), (2, 2000)]));
+        assert_eq!(b.search(k, &[(5, 1), (9, 1), (40, 1)]), (4, vec![(1, 2828), (3, 2000), (2, 2000)]));
     }
     // as many messages as k: with all of them seen there is a posting left, message 1's second one
-    assert_eq!(b.search(3, &[(5, 1), (9, 1), (40, 1)]), (3, vec![(1, 1414), (3, 1000), (2, 1000)]));
-    assert_eq!(b.search(2, &[(5, 1), (9, 1)]), (2, vec![(1, 1414), (2, 1000)]));
+    assert_eq!(b.search(3, &[(5, 1), (9, 1), (40, 1)]), (3, vec![(1, 2828), (3, 2000), (2, 2000)]));
+    assert_eq!(b.search(2, &[(5, 1), (9, 1)]), (2, vec![(1, 2828), (2, 2000)]));
 }
 
 /// Seen are messages and not postings: two of one message don't make up two messages.
 #[test]
 fn two_postings_of_a_message() {
     let b = Board::of(&[&[(5, 1), (40, 9)], &[(5, 1), (9, 1)]]);
-    assert_eq!(b.search(2, &[(5, 1), (9, 1)]), (3, vec![(2, 1414), (1, 110)]));
-    assert_eq!(b.search(1, &[(5, 1), (9, 1)]), (1, vec![(2, 1414)]));
+    assert_eq!(b.search(2, &[(5, 1), (9, 1)]), (3, vec![(2, 2828), (1, 220)]));
+    assert_eq!(b.search(1, &[(5, 1), (9, 1)]), (1, vec![(2, 2828)]));
     // eight postings of one message, then one of the other
     let all: Vec<(u32, u32)> = (0..8).map(|t| (t, 1)).collect();
     let b = Board::of(&[&[(7, 1), (40, 255)], &all]);
-    assert_eq!(b.search(2, &all), (9, vec![(2, 8 * 353), (1, 3)]));
+    assert_eq!(b.search(2, &all), (9, vec![(2, 8 * 707), (1, 7)]));
     assert_eq!(b.search(1, &all).0, 1);
 }
 
@@ -206,8 +206,8 @@ fn two_postings_of_a_message() {
 #[test]
 fn terms_that_none_has() {
     let b = Board::of(&[&[(5, 1)], &[(5, 1), (6, 1)]]);
-    assert_eq!(b.search(1, &[(4, 15), (5, 1), (1023, 15)]), (1, vec![(1, 1000)]));
-    assert_eq!(b.search(2, &[(4, 15), (5, 1), (1023, 15)]), (2, vec![(1, 1000), (2, 707)]));
+    assert_eq!(b.search(1, &[(4, 15), (5, 1), (1023, 15)]), (1, vec![(1, 2000)]));
+    assert_eq!(b.search(2, &[(4, 15), (5, 1), (1023, 15)]), (2, vec![(1, 2000), (2, 1414)]));
     assert_eq!(b.search(16, &[(0, 15), (4, 1), (7, 1), (1023, 15)]), (0, vec![]));
     assert_eq!(Board::of(&[]).search(1, &[(5, 1)]), (0, vec![]));
 }
@@ -216,21 +216,21 @@ fn terms_that_none_has() {
 #[test]
 fn urgency_at_the_last_place() {
     let mut b = Board::new(256, 1000);
-    for urgency in [Some(1), Some(2), None, Some(0), None] {
-        b.message(urgency, &[(5, 1)]);
+    for form in [Form::Graded(1), Form::Graded(2), Form::Plain, Form::Graded(0), Form::Plain] {
+        b.message(form, &[(5, 1)]);
     }
-    b.message(Some(2), &[(5, 1), (6, 1)]);
-    assert_eq!(b.search(1, &[(5, 1)]), (5, vec![(2, 1000)]));
-    assert_eq!(b.search(2, &[(5, 1)]), (5, vec![(2, 1000), (1, 1000)]));
-    assert_eq!(b.search(3, &[(5, 1)]), (5, vec![(2, 1000), (1, 1000), (5, 1000)]));
-    assert_eq!(b.search(6, &[(5, 1)]).1.last(), Some(&(6, 707)));
+    b.message(Form::Graded(2), &[(5, 1), (6, 1)]);
+    assert_eq!(b.search(1, &[(5, 1)]), (5, vec![(2, 2000)]));
+    assert_eq!(b.search(2, &[(5, 1)]), (5, vec![(2, 2000), (1, 2000)]));
+    assert_eq!(b.search(3, &[(5, 1)]), (5, vec![(2, 2000), (1, 2000), (5, 2000)]));
+    assert_eq!(b.search(6, &[(5, 1)]).1.last(), Some(&(6, 1414)));
     // by two terms of one score, of which the urgent message has the higher one
     let mut b = Board::new(256, 1000);
-    b.message(Some(2), &[(9, 1)]);
-    b.message(None, &[(5, 1)]);
-    b.message(None, &[(5, 1)]);
-    assert_eq!(b.search(1, &[(5, 1), (9, 1)]), (3, vec![(1, 1000)]));
-    assert_eq!(b.search(2, &[(5, 1), (9, 1)]), (3, vec![(1, 1000), (3, 1000)]));
+    b.message(Form::Graded(2), &[(9, 1)]);
+    b.message(Form::Plain, &[(5, 1)]);
+    b.message(Form::Plain, &[(5, 1)]);
+    assert_eq!(b.search(1, &[(5, 1), (9, 1)]), (3, vec![(1, 2000)]));
+    assert_eq!(b.search(2, &[(5, 1), (9, 1)]), (3, vec![(1, 2000), (3, 2000)]));
 }
 
 // ---- which messages there are
@@ -239,13 +239,13 @@ fn urgency_at_the_last_place() {
 #[test]
 fn cancelled_messages() {
     let mut b = Board::of(&[&[(5, 1)], &[(5, 1), (6, 1)], &[(5, 1), (6, 2)]]);
-    assert_eq!(b.search(1, &[(5, 1)]), (1, vec![(1, 1000)]));
+    assert_eq!(b.search(1, &[(5, 1)]), (1, vec![(1, 2000)]));
     b.cancel(1);
-    assert_eq!(b.search(1, &[(5, 1)]), (1, vec![(2, 707)]));
-    assert_eq!(b.search(3, &[(5, 1)]), (2, vec![(2, 707), (3, 447)]));
+    assert_eq!(b.search(1, &[(5, 1)]), (1, vec![(2, 1414)]));
+    assert_eq!(b.search(3, &[(5, 1)]), (2, vec![(2, 1414), (3, 894)]));
     let time = b.log.clock;
-    b.take(Frame::Message { time, serial: 1, urgency: None, pairs: vec![(5, 1), (6, 3)] });
-    assert_eq!(b.search(3, &[(5, 1)]), (3, vec![(2, 707), (3, 447), (1, 316)]));
+    b.take(Frame::Message { time, serial: 1, form: Form::Plain, pairs: vec![(5, 1), (6, 3)] });
+    assert_eq!(b.search(3, &[(5, 1)]), (3, vec![(2, 1414), (3, 894), (1, 632)]));
     [1, 2, 3].into_iter().for_each(|serial| b.cancel(serial));
     assert_eq!(b.search(3, &[(5, 1), (6, 1)]), (0, vec![]));
 }
@@ -254,22 +254,22 @@ fn cancelled_messages() {
 #[test]
 fn aged_messages() {
     let mut b = Board::new(3, 100);
-    b.take(Frame::Message { time: 10, serial: 1, urgency: None, pairs: vec![(5, 1)] });
-    b.take(Frame::Message { time: 20, serial: 2, urgency: None, pairs: vec![(5, 1), (6, 1)] });
+    b.take(Frame::Message { time: 10, serial: 1, form: Form::Plain, pairs: vec![(5, 1)] });
+    b.take(Frame::Message { time: 20, serial: 2, form: Form::Plain, pairs: vec![(5, 1), (6, 1)] });
     b.take(Frame::Tick { time: 110 });
     for (time, number) in [(0, 0), (109, 31), (110, 0), (111, 7), (120, 0), (u32::MAX, 31)] {
         let bytes = Frame::Register { time, number, k: 1, terms: vec![(5, 1)] }.bytes();
-        assert_eq!(engine::search(&b.state, &bytes), Ok((vec![(1, 1000)], 1)), "time {time}, number {number}");
+        assert_eq!(engine::search(&b.state, &bytes), Ok((vec![(1, 2000)], 1)), "time {time}, number {number}");
     }
     b.take(Frame::Tick { time: 111 });
-    assert_eq!(b.search(2, &[(5, 1)]), (1, vec![(2, 707)]));
+    assert_eq!(b.search(2, &[(5, 1)]), (1, vec![(2, 1414)]));
     b.take(Frame::Tick { time: 121 });
     assert_eq!(b.search(2, &[(5, 1)]), (0, vec![]));
     // N of 3: the first of four goes
     for serial in 0..4 {
-        b.take(Frame::Message { time: 121, serial, urgency: None, pairs: vec![(5, 1)] });
+        b.take(Frame::Message { time: 121, serial, form: Form::Plain, pairs: vec![(5, 1)] });
     }
-    assert_eq!(b.search(16, &[(5, 1)]), (3, vec![(3, 1000), (2, 1000), (1, 1000)]));
+    assert_eq!(b.search(16, &[(5, 1)]), (3, vec![(3, 2000), (2, 2000), (1, 2000)]));
 }
 
 /// Wherever the window stands in the ring, around its end too, the later of equal ones is read first: message `earlier` + 4 has both terms.
@@ -277,16 +277,16 @@ fn aged_messages() {
 fn around_the_ring() {
     for earlier in [0, 1, 250, 252, 253, 254, 255, 256, 257, 258, 600] {
         let mut b = Board::new(5, 65535);
-        (0..earlier).for_each(|_| b.message(None, &[(5, 1), (9, 1)]));
+        (0..earlier).for_each(|_| b.message(Form::Plain, &[(5, 1), (9, 1)]));
         for pairs in [&[(9, 1)][..], &[(5, 1)], &[(5, 1)], &[(5, 1), (9, 1)], &[(9, 1)]] {
-            b.message(None, pairs);
+            b.message(Form::Plain, pairs);
         }
         let terms = &[(5, 1), (9, 1)];
-        assert_eq!(b.search(1, terms), (5, vec![(earlier + 4, 1414)]), "{earlier} messages before");
-        assert_eq!(b.search(2, terms).1, [(earlier + 4, 1414), (earlier + 5, 1000)]);
+        assert_eq!(b.search(1, terms), (5, vec![(earlier + 4, 2828)]), "{earlier} messages before");
+        assert_eq!(b.search(2, terms).1, [(earlier + 4, 2828), (earlier + 5, 2000)]);
         assert_eq!(b.search(16, terms).0, 6);
         b.cancel(earlier + 4);
-        assert_eq!(b.search(1, terms), (4, vec![(earlier + 5, 1000)]));
+        assert_eq!(b.search(1, terms), (4, vec![(earlier + 5, 2000)]));
     }
 }
 
@@ -298,14 +298,34 @@ fn as_much_as_there_can_be() {
     let heavy: Vec<(u32, u32)> = all.iter().map(|p| (p.0, 15)).collect();
     let b = Board::of(&vec![&all[..]; 256]);
     let (read, list) = b.search(16, &heavy);
-    assert_eq!((read, list.len(), list[0], list[15]), (256, 16, (256, 8 * 15 * 353), (241, 8 * 15 * 353)));
+    assert_eq!((read, list.len(), list[0], list[15]), (256, 16, (256, 8 * 15 * 707), (241, 8 * 15 * 707)));
     let mut b = Board::new(256, 1000);
-    (0..256).for_each(|i| b.message(None, &[(i, 1 + 19 * (i % 2)), (1023, 255)]));
+    (0..256).for_each(|i| b.message(Form::Plain, &[(i, 1 + 19 * (i % 2)), (1023, 255)]));
     let (read, list) = b.search(16, &[(1023, 15)]);
-    assert_eq!((read, list[0], list[15]), (128, (255, 15 * 999), (225, 15 * 999)));
+    assert_eq!((read, list[0], list[15]), (128, (255, 15 * 1999), (225, 15 * 1999)));
     // fifteen messages and k 16: all of their postings
     let b = Board::of(&vec![&all[..]; 15]);
     assert_eq!(b.search(16, &heavy).0, 8 * 15);
+}
+
+/// Terms 0 to n - 1, counted once each: 353 of 32 pairs, 485 of 17, and 500 of 16. The searches are for pairs past the 16th, and for the 16th beside
+/// them.
+#[test]
+fn long_messages() {
+    let once = |n: u32| (0..n).map(|t| (t, 1)).collect::<Vec<_>>();
+    let b = Board::of(&[&once(32), &once(17), &once(16), &[(31, 1)]]);
+    assert_eq!(b.search(1, &[(16, 1)]), (1, vec![(2, 485)]));
+    assert_eq!(b.search(16, &[(16, 1), (17, 1)]), (3, vec![(1, 706), (2, 485)]));
+    let three = &[(15, 1), (16, 1), (31, 1)];
+    assert_eq!(b.search(1, three), (1, vec![(4, 2000)]));
+    // messages 4, 3 and 2, which has both of the next postings, and 1; then 353 + 353 are to come
+    assert_eq!(b.search(2, three), (5, vec![(4, 2000), (1, 1059)]));
+    assert_eq!(b.search(16, three), (7, vec![(4, 2000), (1, 1059), (2, 970), (3, 500)]));
+    // as much as there can be: the last eight of 32 pairs in each of 256 messages
+    let all: Vec<(u32, u32)> = (992..1024).map(|t| (t, 255)).collect();
+    let heavy: Vec<(u32, u32)> = all[24..].iter().map(|p| (p.0, 15)).collect();
+    let (read, list) = Board::of(&vec![&all[..]; 256]).search(16, &heavy);
+    assert_eq!((read, list.len(), list[0], list[15]), (256, 16, (256, 8 * 15 * 353), (241, 8 * 15 * 353)));
 }
 
 /// Each posting is of a message of its own, and all products are different: more are read than the list has entries, since those next in three terms
@@ -367,13 +387,16 @@ fn lengths_lent() {
 fn every_other_kind() {
     let b = c10();
     let whole = [
-        Frame::Message { time: 50, serial: 9, urgency: None, pairs: vec![(5, 1), (9, 1)] },
+        Frame::Message { time: 50, serial: 9, form: Form::Plain, pairs: vec![(5, 1), (9, 1)] },
         Frame::Tick { time: 50 },
         Frame::Drop { time: 50, number: 0 },
         Frame::Cancel { time: 50, serial: 4 },
-        Frame::Message { time: 50, serial: 9, urgency: Some(2), pairs: vec![(5, 1), (9, 1)] },
-        Frame::Message { time: 50, serial: 9, urgency: Some(3), pairs: vec![(5, 0), (5, 1)] },
-        Frame::Message { time: 0, serial: 4, urgency: None, pairs: vec![(9, 0), (5, 0)] },
+        Frame::Message { time: 50, serial: 9, form: Form::Graded(2), pairs: vec![(5, 1), (9, 1)] },
+        Frame::Message { time: 50, serial: 9, form: Form::Graded(3), pairs: vec![(5, 0), (5, 1)] },
+        Frame::Message { time: 0, serial: 4, form: Form::Plain, pairs: vec![(9, 0), (5, 0)] },
+        Frame::Message { time: 50, serial: 9, form: Form::Long(2), pairs: vec![(5, 1), (9, 1)] },
+        Frame::Message { time: 50, serial: 9, form: Form::Long(0), pairs: (0..32).map(|t| (t, 1)).collect() },
+        Frame::Message { time: 50, serial: 9, form: Form::Long(3), pairs: vec![(5, 0), (5, 1)] },
     ];
     for f in whole {
         assert_eq!(engine::search(&b.state, &f.bytes()), Err(2), "{f:?}");
@@ -381,9 +404,9 @@ fn every_other_kind() {
     let register = ask(3, &[(5, 1), (9, 2), (40, 3)]);
     let mut r = Random::new(31);
     for kind in (0..16u8).filter(|kind| *kind != 3) {
-        for len in 0..60 {
+        for len in 0..90 {
             let random = r.bytes(len);
-            for mut bytes in [vec![0; len], vec![0xff; len], random, register.iter().copied().chain([0; 60]).take(len).collect()] {
+            for mut bytes in [vec![0; len], vec![0xff; len], random, register.iter().copied().chain([0; 90]).take(len).collect()] {
                 if let Some(first) = bytes.first_mut() {
                     *first = kind << 4 | *first & 15;
                 }
@@ -426,7 +449,7 @@ fn time_and_number_ignored() {
     for number in 1..32 {
         b.take(Frame::Register { time: 40, number, k: 16, terms: vec![(40, 1)] });
     }
-    let want = Ok((vec![(3, 1414), (2, 1000)], 2));
+    let want = Ok((vec![(3, 2828), (2, 2000)], 2));
     for number in 0..32 {
         for time in [0, 1, 39, 40, 41, 140, 141, 1 << 31, u32::MAX] {
             let bytes = Frame::Register { time, number, k: 2, terms: vec![(5, 1), (9, 2)] }.bytes();
@@ -447,7 +470,7 @@ fn every_small_log() {
     for order in 0..6usize.pow(4) {
         let mut b = Board::new(4, 1000);
         // the third is urgent
-        (0..4).for_each(|i| b.message((i == 2).then_some(2), SORTS[order / 6usize.pow(i) % 6]));
+        (0..4).for_each(|i| b.message(if i == 2 { Form::Graded(2) } else { Form::Plain }, SORTS[order / 6usize.pow(i) % 6]));
         for terms in &queries {
             for k in 1..=4 {
                 let q = Query { k, terms: terms.clone() };
@@ -466,15 +489,21 @@ fn every_small_log() {
 #[test]
 fn random_logs() {
     let mut r = Random::new(33);
-    let (mut met, mut most_read) = ([0usize; 6], 0);
+    let (mut met, mut most_read) = ([0usize; 7], 0);
     for round in 0..400 {
-        let (capacity, vocabulary) = ([1, 4, 16, 64, 256][round % 5], [2, 4, 9, 20][round / 5 % 4]);
+        let (capacity, vocabulary) = ([1, 4, 16, 64, 256][round % 5], [2, 4, 9, 40][round / 5 % 4]);
         let mut b = Board::new(capacity, 1000);
         for _ in 0..r.below(2 * capacity as u64 + 2) {
-            let mut pairs: Vec<(u32, u32)> = (0..vocabulary.min(16)).map(|t| (t, r.below(3) as u32)).filter(|p| p.1 > 0).collect();
-            pairs.push((30 + r.below(5) as u32, 1 + r.below(2) as u32));
-            pairs.truncate(16);
-            b.message([None, Some(1), Some(2)][r.pick(2, 3, 1) as usize], &pairs);
+            let mut pairs: Vec<(u32, u32)> = (0..vocabulary).map(|t| (t, r.below(3) as u32)).filter(|p| p.1 > 0).collect();
+            pairs.push((50 + r.below(5) as u32, 1 + r.below(2) as u32));
+            pairs.truncate(32);
+            let (kind, urgency) = (r.below(3), r.pick(2, 3, 1) as u32);
+            let form = match kind {
+                0 if pairs.len() <= 16 => Form::Plain,
+                1 if pairs.len() <= 16 => Form::Graded(urgency),
+                _ => Form::Long(urgency),
+            };
+            b.message(form, &pairs);
             if r.one_in(6) {
                 let in_force: Vec<u32> = b.log.in_force().iter().map(|m| m.serial).collect();
                 b.cancel(in_force[r.below(in_force.len() as u64) as usize]);
@@ -488,7 +517,9 @@ fn random_logs() {
             let bytes = ask(1 + r.below(16) as usize, &terms);
             let found = compare::search(&b.state, &b.log, &bytes, r.below(32) as usize).expect("a search that is accepted");
             let full = found.list.len() == asked(&bytes).unwrap().k;
-            for (count, is) in met.iter_mut().zip([found.left > 0, found.left == 0 && full, !full, found.equal, found.tied, found.again]) {
+            let pairs = |serial: u32| b.log.messages[b.log.holder(serial, b.log.clock).expect("a listed message is in force")].pairs.len();
+            let long = found.list.iter().any(|e| pairs(e.0) > 16);
+            for (count, is) in met.iter_mut().zip([found.left > 0, found.left == 0 && full, !full, found.equal, found.tied, found.again, long]) {
                 *count += is as usize;
             }
             most_read = most_read.max(found.read);
@@ -510,16 +541,16 @@ fn foreign_memory() {
         };
         // of the words that steer a search: N, oldest and count, and serial, size and cells of slots
         for _ in 0..r.below(40) {
-            let i = if r.one_in(2) { r.below(5) } else { 5 + 19 * r.below(257) + r.below(19) } as usize;
-            let words = [0, 1, 2, 16, 17, 64, 80, 145, 209, 255, 256, 257, 258, 1 << 20, 17 << 20, 1 << 31, u32::MAX, r.next() as u32];
+            let i = if r.one_in(2) { r.below(5) as usize } else { engine::slot_at(r.below(257) as usize) + r.below(35) as usize };
+            let words = [0, 1, 2, 16, 17, 32, 33, 64, 96, 161, 225, 255, 256, 257, 258, 1 << 20, 33 << 20, 1 << 31, u32::MAX, r.next() as u32];
             let word = words[r.below(words.len() as u64) as usize];
             bytes[4 * i..4 * i + 4].copy_from_slice(&u32::to_le_bytes(word));
         }
         let state = Lent::new(&bytes);
         for _ in 0..20 {
             // the terms of two cells as they stand there, so that there are postings
-            let mut cell = || engine::state_word(&bytes, 5 + 19 * r.below(257) as usize + 3 + r.below(16) as usize) / 4194304;
-            let (one, other) = (cell(), cell());
+            let mut term = || engine::term_at(&bytes, r.below(257) as usize, r.below(32) as usize);
+            let (one, other) = (term(), term());
             let mut terms: Vec<(u32, u32)> = [one, other, 5, 9].map(|t| (t, 1 + t % 15)).to_vec();
             terms.sort_unstable();
             terms.dedup();

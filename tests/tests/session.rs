@@ -1,7 +1,7 @@
 //! The session program, run on whole inputs: what it prints is compared byte for byte.
 
 use fennelrake_tests::engine::{self, Lent, STATE};
-use fennelrake_tests::paper::{Frame, Log};
+use fennelrake_tests::paper::{Form, Frame, Log};
 use fennelrake_tests::source::{Source, Style, ORDER};
 use std::fmt::Write as _;
 use std::io::{BufRead, BufReader, Read, Write};
@@ -47,11 +47,15 @@ fn tick(time: u32) -> Vec<u8> {
 }
 
 fn message(time: u32, serial: u32, pairs: &[(u32, u32)]) -> Vec<u8> {
-    Frame::Message { time, serial, urgency: None, pairs: pairs.to_vec() }.bytes()
+    Frame::Message { time, serial, form: Form::Plain, pairs: pairs.to_vec() }.bytes()
 }
 
 fn graded(time: u32, serial: u32, urgency: u32, pairs: &[(u32, u32)]) -> Vec<u8> {
-    Frame::Message { time, serial, urgency: Some(urgency), pairs: pairs.to_vec() }.bytes()
+    Frame::Message { time, serial, form: Form::Graded(urgency), pairs: pairs.to_vec() }.bytes()
+}
+
+fn long(time: u32, serial: u32, urgency: u32, pairs: &[(u32, u32)]) -> Vec<u8> {
+    Frame::Message { time, serial, form: Form::Long(urgency), pairs: pairs.to_vec() }.bytes()
 }
 
 fn register(time: u32, number: usize, k: usize, terms: &[(u32, u32)]) -> Vec<u8> {
@@ -94,10 +98,13 @@ fn cut_frames() {
         (&[255, 0x20, 0, 0, 7, 0x80], "1 0 00000000 0\n"),
         (&[4, 0x20, 0, 0, 7, 0x80], "1 1 00000000 0\n2 1 00000000 0\n"),
         (&[6, 0x20, 0, 0, 7, 0x80, 0], "1 3 00000000 0\n"),
-        (&[9, 0x70, 0, 0, 0, 0], "1 2 00000000 0\n"),
+        (&[9, 0x80, 0, 0, 0, 0], "1 2 00000000 0\n"),
         (&[7, 0x50, 0, 0, 0, 0, 0], "1 3 00000000 0\n"),
         (&[10, 0x60, 0, 0, 0, 0xa0, 0, 1, 0xc0, 5], "1 3 00000000 0\n"),
         (&[11, 0x60, 0, 0, 0, 0xa0, 0, 1, 0xc0, 5, 1], "1 14 00000000 0\n"),
+        (&[11, 0x70, 0, 0, 0, 0xa0, 0, 1, 0xc0, 2, 0x80], "1 3 00000000 0\n"),
+        (&[12, 0x70, 0, 0, 0, 0xa0, 0, 1, 0xc0, 2, 0x80, 0x80], "1 14 00000000 0\n"),
+        (&[12, 0x70, 0, 0, 0, 0xa0, 0, 1, 0x80, 2, 0x80, 0x80], "1 0 00000000 0\n"),
     ] {
         let all = [&[2, 0, 0x64], rest].concat();
         assert_eq!(session(&all), want, "{all:02x?}");
@@ -123,7 +130,7 @@ fn dropping() {
     assert_eq!(session(&input(3, 100, &frames)), "1 0 00000001 0\nQ 0 0\n2 0 00000001 0\n3 10 00000000 0\n4 0 00000001 0\nQ 0 0\n");
     // a departure reaches another query by the same frame
     let frames = [register(0, 0, 2, &[(5, 1)]), register(0, 9, 2, &[(5, 3)]), message(0, 8, &[(5, 1)]), drop_query(101, 0)];
-    let want = "1 0 00000001 0\nQ 0 0\n2 0 00000200 0\nQ 9 0\n3 0 00000201 0\nQ 0 1 8 1000\nQ 9 1 8 3000\n4 0 00000201 1\nQ 9 0\n";
+    let want = "1 0 00000001 0\nQ 0 0\n2 0 00000200 0\nQ 9 0\n3 0 00000201 0\nQ 0 1 8 2000\nQ 9 1 8 6000\n4 0 00000201 1\nQ 9 0\n";
     assert_eq!(session(&input(3, 100, &frames)), want);
 }
 
@@ -146,9 +153,9 @@ fn cancelling() {
         cancel(142, 4),
         tick(143),
     ];
-    let want = "1 0 00000001 0\nQ 0 0\n2 0 00000001 0\nQ 0 1 1 2200\n3 0 00000001 0\nQ 0 2 1 2200 2 1000\n4 0 00000001 0\nQ 0 2 1 2200 3 1414\n\
-                5 0 00000001 1\nQ 0 2 3 1414 2 1000\n6 13 00000000 0\n7 0 00000001 0\nQ 0 2 3 1414 1 1000\n8 0 00000001 1\nQ 0 2 4 2000 3 1414\n\
-                9 7 00000000 0\n10 13 00000000 0\n11 0 00000001 2\nQ 0 1 4 2000\n12 0 00000001 1\nQ 0 0\n13 0 00000000 0\n";
+    let want = "1 0 00000001 0\nQ 0 0\n2 0 00000001 0\nQ 0 1 1 4400\n3 0 00000001 0\nQ 0 2 1 4400 2 2000\n4 0 00000001 0\nQ 0 2 1 4400 3 2828\n\
+                5 0 00000001 1\nQ 0 2 3 2828 2 2000\n6 13 00000000 0\n7 0 00000001 0\nQ 0 2 3 2828 1 2000\n8 0 00000001 1\nQ 0 2 4 4000 3 2828\n\
+                9 7 00000000 0\n10 13 00000000 0\n11 0 00000001 2\nQ 0 1 4 4000\n12 0 00000001 1\nQ 0 0\n13 0 00000000 0\n";
     assert_eq!(session(&input(3, 100, &frames)), want);
 }
 
@@ -170,9 +177,32 @@ fn urgencies() {
         message(41, 3, one),
         graded(50, 6, 2, &[(5, 1), (6, 1)]),
     ];
-    let want = "1 0 00000001 0\nQ 0 0\n2 0 00000001 0\nQ 0 1 1 1000\n3 0 00000001 0\nQ 0 2 1 1000 2 1000\n4 0 00000001 0\nQ 0 2 1 1000 3 1000\n\
-                5 0 00000001 1\nQ 0 2 3 1000 4 1000\n6 14 00000000 0\n7 14 00000000 0\n8 0 00000001 1\nQ 0 2 5 1000 3 1000\n\
-                9 0 00000001 1\nQ 0 2 5 1000 4 1000\n10 0 00000001 0\nQ 0 2 5 1000 3 1000\n11 0 00000001 1\nQ 0 2 5 1000 3 1000\n";
+    let want = "1 0 00000001 0\nQ 0 0\n2 0 00000001 0\nQ 0 1 1 2000\n3 0 00000001 0\nQ 0 2 1 2000 2 2000\n4 0 00000001 0\nQ 0 2 1 2000 3 2000\n\
+                5 0 00000001 1\nQ 0 2 3 2000 4 2000\n6 14 00000000 0\n7 14 00000000 0\n8 0 00000001 1\nQ 0 2 5 2000 3 2000\n\
+                9 0 00000001 1\nQ 0 2 5 2000 4 2000\n10 0 00000001 0\nQ 0 2 5 2000 3 2000\n11 0 00000001 1\nQ 0 2 5 2000 3 2000\n";
+    assert_eq!(session(&input(3, 100, &frames)), want);
+}
+
+/// Messages of up to 32 pairs, by the term that stands 32nd: 353 where all are counted once, 1999 where it is counted 255 times. As above only one
+/// threshold is tight.
+#[test]
+fn long_messages() {
+    let once: Vec<(u32, u32)> = (0..32).map(|t| (t, 1)).collect();
+    let mostly_one: Vec<(u32, u32)> = (0..32).map(|t| (t, if t == 31 { 255 } else { 1 })).collect();
+    let frames = [
+        register(0, 0, 2, &[(31, 1)]),
+        long(10, 1, 0, &once),
+        long(20, 2, 2, &once),
+        long(30, 3, 1, &once[..31]),
+        message(40, 4, &[(31, 1)]),
+        long(45, 5, 3, &once),
+        cancel(50, 2),
+        long(60, 2, 0, &mostly_one),
+        tick(141),
+    ];
+    let want = "1 0 00000001 0\nQ 0 0\n2 0 00000001 0\nQ 0 1 1 353\n3 0 00000001 0\nQ 0 2 2 353 1 353\n4 0 00000000 0\n\
+                5 0 00000001 1\nQ 0 2 4 2000 2 353\n6 14 00000000 0\n7 0 00000001 1\nQ 0 1 4 2000\n\
+                8 0 00000001 0\nQ 0 2 4 2000 2 1999\n9 0 00000001 2\nQ 0 1 2 1999\n";
     assert_eq!(session(&input(3, 100, &frames)), want);
 }
 
@@ -181,7 +211,7 @@ fn urgencies() {
 fn marks() {
     let (first, last) = (register(0, 0, 1, &[(5, 1)]), register(0, 31, 1, &[(5, 2)]));
     let frames = [last, first, message(1, 1048575, &[(5, 7)]), message(1, 0, &[(6, 7)]), tick(101), tick(102)];
-    let want = "1 0 80000000 0\nQ 31 0\n2 0 00000001 0\nQ 0 0\n3 0 80000001 0\nQ 0 1 1048575 1000\nQ 31 1 1048575 2000\n\
+    let want = "1 0 80000000 0\nQ 31 0\n2 0 00000001 0\nQ 0 0\n3 0 80000001 0\nQ 0 1 1048575 2000\nQ 31 1 1048575 4000\n\
                 4 0 00000000 0\n5 0 00000000 0\n6 0 80000001 2\nQ 0 0\nQ 31 0\n";
     assert_eq!(session(&input(3, 100, &frames)), want);
 
@@ -192,7 +222,7 @@ fn marks() {
         writeln!(want, "{} 0 {:08x} 0\nQ {q} 0", i + 1, 1u32 << q).unwrap();
     }
     want += "33 0 ffffffff 0\n";
-    (0..32).for_each(|q| writeln!(want, "Q {q} 1 3 1000").unwrap());
+    (0..32).for_each(|q| writeln!(want, "Q {q} 1 3 2000").unwrap());
     assert_eq!(session(&input(3, 100, &frames)), want);
 }
 
@@ -233,8 +263,8 @@ fn ordinals() {
         message(55, 2, &[(9, 1)]),
         tick(154),
     ];
-    let want = "1 0 00000008 0\nQ 3 0\n2 1 00000000 0\n3 0 00000008 0\nQ 3 1 1 1000\n4 7 00000000 0\n5 9 00000000 0\n6 8 00000000 0\n\
-                7 10 00000000 0\n8 4 00000000 0\n9 0 00000008 0\nQ 3 2 2 2000 1 1000\n10 0 00000008 1\nQ 3 1 2 2000\n";
+    let want = "1 0 00000008 0\nQ 3 0\n2 1 00000000 0\n3 0 00000008 0\nQ 3 1 1 2000\n4 7 00000000 0\n5 9 00000000 0\n6 8 00000000 0\n\
+                7 10 00000000 0\n8 4 00000000 0\n9 0 00000008 0\nQ 3 2 2 4000 1 2000\n10 0 00000008 1\nQ 3 1 2 4000\n";
     assert_eq!(session(&input(3, 100, &frames)), want);
 }
 
@@ -245,10 +275,10 @@ fn longest_list() {
     let counts: Vec<(u32, u32)> = (0..8).map(|i| (i * 100, 255)).collect();
     let frames: Vec<_> = std::iter::once(register(0, 31, 16, &terms)).chain((0..17).map(|i| message(0, 1048575 - i, &counts))).collect();
     let mut want = "1 0 80000000 0\nQ 31 0\n".to_string();
-    // 353 for each of eight equal counts; the later stands first
+    // 707 for each of eight equal counts; the later stands first
     for i in 0..17 {
         write!(want, "{} 0 80000000 0\nQ 31 {}", i + 2, (i + 1).min(16)).unwrap();
-        (0..=i).rev().take(16).for_each(|j| write!(want, " {} 42360", 1048575 - j).unwrap());
+        (0..=i).rev().take(16).for_each(|j| write!(want, " {} 84840", 1048575 - j).unwrap());
         want += "\n";
     }
     assert_eq!(session(&input(256, 100, &frames)), want);
@@ -305,19 +335,22 @@ fn compare(style: Style, count: usize, seed: u64) {
 
 #[test]
 fn random_passage() {
-    let style = Style { capacity: 64, life: 200, terms: 40, counts: 9, serials: 200, queries: 32, entries: 16, step: 3, jump: 60, cancels: 18 };
+    let (terms, rare) = (40, 0);
+    let style = Style { capacity: 64, life: 200, terms, rare, counts: 9, serials: 200, queries: 32, entries: 16, step: 3, jump: 60, cancels: 18 };
     compare(style, 4000, 21);
 }
 
 #[test]
 fn random_passage_of_many_messages() {
-    let style = Style { capacity: 256, life: 9000, terms: 12, counts: 4, serials: 700, queries: 6, entries: 16, step: 1, jump: 300, cancels: 18 };
+    let (terms, rare) = (40, 28);
+    let style = Style { capacity: 256, life: 9000, terms, rare, counts: 4, serials: 700, queries: 6, entries: 16, step: 1, jump: 300, cancels: 18 };
     compare(style, 3000, 22);
 }
 
 #[test]
 fn random_passage_of_ties() {
-    let style = Style { capacity: 40, life: 300, terms: 2, counts: 1, serials: 120, queries: 10, entries: 16, step: 2, jump: 60, cancels: 18 };
+    let (terms, rare) = (2, 0);
+    let style = Style { capacity: 40, life: 300, terms, rare, counts: 1, serials: 120, queries: 10, entries: 16, step: 2, jump: 60, cancels: 18 };
     compare(style, 3000, 24);
 }
 
@@ -368,7 +401,7 @@ fn streaming() {
         // each message leaves with the tick two frames on; the long frame between is refused
         let (reply, list) = match i % 4 {
             _ if i == 0 => ("0 00000002 0", Some("Q 1 0".to_string())),
-            2 => ("0 00000002 0", Some(format!("Q 1 1 {i} 1000"))),
+            2 => ("0 00000002 0", Some(format!("Q 1 1 {i} 2000"))),
             3 => ("3 00000000 0", None),
             0 => ("0 00000002 1", Some("Q 1 0".to_string())),
             _ => ("0 00000000 0", None),

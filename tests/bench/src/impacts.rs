@@ -30,7 +30,7 @@ fn most_square(f: u32, n: u32) -> u64 {
 #[inline(always)]
 fn bit_by_bit(f: u32, n: u32) -> u32 {
     let most = most_square(f, n).min(TOP as u64 * TOP as u64);
-    let (mut low, mut step) = (0, 512);
+    let (mut low, mut step) = (0, 1 << TOP.ilog2());
     while 0 < step {
         let middle = (low + step) as u64;
         low += step * (middle * middle <= most) as u32;
@@ -80,8 +80,9 @@ fn by_unit(f: u32, n: u32, unit: u32) -> u32 {
 
 type Counts = Vec<u32>;
 
-/// The impacts of a message in sixteen places.
-type Way = fn(&Counts, u32, &mut [u32; 16]);
+/// The impacts of a message, in as many places as it can have pairs.
+type Impacts = [u32; 32];
+type Way = fn(&Counts, u32, &mut Impacts);
 
 const WAYS: [(&str, Way); 4] = [
     ("by the unit and the table", |fs, n, out| {
@@ -105,7 +106,7 @@ fn messages(r: &mut Random, least: u64, pairs: u64, most: u64) -> Vec<(Counts, u
 }
 
 fn nanoseconds(way: Way, messages: &[(Counts, u32)]) -> f64 {
-    let mut out = [0; 16];
+    let mut out = [0; 32];
     let t = Instant::now();
     for (fs, n) in messages {
         way(black_box(fs), *n, &mut out);
@@ -118,11 +119,11 @@ pub fn print() {
     let names: Vec<_> = WAYS[1..].iter().map(|w| w.0).collect();
     println!("| counts | pairs | {} | two places left |\n|{}", names.join(" | "), "---|".repeat(3 + names.len()));
     let mut r = Random::new(11);
-    for (most, least, pairs) in [(9, 4, 12), (9, 16, 16), (255, 4, 12), (255, 1, 1)] {
+    for (most, least, pairs) in [(9, 4, 12), (9, 16, 16), (9, 32, 32), (255, 4, 12), (255, 1, 1)] {
         let messages = messages(&mut r, least, pairs, most);
-        let found = |way: Way| -> Vec<[u32; 16]> {
+        let found = |way: Way| -> Vec<Impacts> {
             let impacts = |(fs, n): &(Counts, u32)| {
-                let mut out = [0; 16];
+                let mut out = [0; 32];
                 way(fs, *n, &mut out);
                 out
             };

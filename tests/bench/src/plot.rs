@@ -54,7 +54,7 @@ pub fn svg(rows: &[Row]) -> String {
     let logs = || largest.iter().flat_map(|r| &r.ratios[..NAMES.len()]).map(|r| r.log10());
     // half powers of ten
     let (low, high) = (logs().fold(0.0, |a, l| (2.0 * l).floor().min(a)) / 2.0, logs().fold(0.0, |a, l| (2.0 * l).ceil().max(a)) / 2.0);
-    let panels: Vec<_> = SHARED.iter().filter(|(_, shared)| *shared != "some").collect();
+    let panels = [SHARED[0], SHARED[2]];
     let height = TOP + STEP * panels.len() as f64;
 
     let mut out = format!(
@@ -62,17 +62,17 @@ pub fn svg(rows: &[Row]) -> String {
     );
     writeln!(out, "\n<rect width=\"100%\" height=\"100%\" fill=\"#fff\"/>").unwrap();
     legend(&mut out);
-    for (panel, (terms, shared)) in panels.into_iter().enumerate() {
+    for (panel, workload) in panels.into_iter().enumerate() {
         let top = TOP + 18.0 + STEP * panel as f64;
         let at = |log: f64| top + MARGIN + (high - log) / (high - low) * (HEIGHT - 2.0 * MARGIN);
         let one = at(0.0);
-        text(&mut out, LEFT, top - 7.0, 13, r#"font-weight="bold""#, &format!("{shared} shared terms ({terms} in all)"));
+        text(&mut out, LEFT, top - 7.0, 13, r#"font-weight="bold""#, &format!("{} shared terms ({} in all)", workload.name, workload.terms));
         writeln!(out, r##"<rect x="{LEFT}" y="{top}" width="{}" height="{HEIGHT}" fill="#fafafa" stroke="#ccc"/>"##, RIGHT - LEFT).unwrap();
         for power in low.ceil() as i32..=high.floor() as i32 {
             line(&mut out, at(power as f64), "#ddd", 1.0);
             text(&mut out, LEFT - 8.0, at(power as f64) + 4.0, 12, r#"text-anchor="end""#, &10f64.powi(power).to_string());
         }
-        let groups: Vec<_> = largest.iter().filter(|r| r.setting.terms == *terms).collect();
+        let groups: Vec<_> = largest.iter().filter(|r| r.setting.workload == workload).collect();
         let pitch = (RIGHT - LEFT) / groups.len() as f64;
         for (group, row) in groups.into_iter().enumerate() {
             let middle = LEFT + pitch * (group as f64 + 0.5);

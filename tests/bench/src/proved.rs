@@ -20,6 +20,8 @@ extern "C" {
 }
 
 pub struct Calls {
+    /// The length of the state memory.
+    state: usize,
     start: Start,
     frame: Take,
     list: List,
@@ -34,7 +36,7 @@ pub struct Linked;
 
 impl Archive for Linked {
     fn calls() -> &'static Calls {
-        &Calls { start: fennelrake_start, frame: fennelrake_frame, list: fennelrake_list }
+        &Calls { state: STATE, start: fennelrake_start, frame: fennelrake_frame, list: fennelrake_list }
     }
 }
 
@@ -42,6 +44,16 @@ impl Archive for Linked {
 pub struct Earlier;
 
 static EARLIER: OnceLock<Calls> = OnceLock::new();
+
+/// The document's bound on state and buffers.
+const ROOM: usize = 65536;
+
+/// The only length of state memory that a start takes.
+fn state_length(start: Start) -> Option<usize> {
+    let mut room = vec![0; ROOM];
+    // SAFETY: the pointer is of a slice of at least the length
+    (0..=ROOM).find(|&len| unsafe { start(room.as_mut_ptr(), len, 1, 1) } == 0)
+}
 
 impl Earlier {
     pub fn load(path: &str) {
@@ -57,14 +69,15 @@ impl Earlier {
             call
         };
         // SAFETY: the header gives the functions of these names these types
-        let calls = unsafe {
-            Calls {
-                start: std::mem::transmute::<*mut c_void, Start>(find(c"fennelrake_start")),
-                frame: std::mem::transmute::<*mut c_void, Take>(find(c"fennelrake_frame")),
-                list: std::mem::transmute::<*mut c_void, List>(find(c"fennelrake_list")),
-            }
+        let (start, frame, list) = unsafe {
+            (
+                std::mem::transmute::<*mut c_void, Start>(find(c"fennelrake_start")),
+                std::mem::transmute::<*mut c_void, Take>(find(c"fennelrake_frame")),
+                std::mem::transmute::<*mut c_void, List>(find(c"fennelrake_list")),
+            )
         };
-        assert!(EARLIER.set(calls).is_ok(), "loaded twice");
+        let state = state_length(start).unwrap_or_else(|| panic!("{path}: its start takes no state memory"));
+        assert!(EARLIER.set(Calls { state, start, frame, list }).is_ok(), "loaded twice");
     }
 }
 
@@ -94,16 +107,16 @@ impl Proved {
 
 impl<A: Archive> Method for Engine<A> {
     fn start(capacity: usize, life: u32) -> Self {
-        let mut state = vec![0; STATE];
+        let mut state = vec![0; A::calls().state];
         // SAFETY: the pointer and length are of one slice
-        assert_eq!(unsafe { (A::calls().start)(state.as_mut_ptr(), STATE, capacity as u32, life) }, 0);
+        assert_eq!(unsafe { (A::calls().start)(state.as_mut_ptr(), state.len(), capacity as u32, life) }, 0);
         Engine { state, archive: PhantomData }
     }
 
     fn frame(&mut self, bytes: &[u8]) -> Result<usize, u32> {
-        let mut answer = [0; FRAME_ANSWER];
+        let (mut answer, state) = ([0; FRAME_ANSWER], &mut self.state[..]);
         // SAFETY: each pointer and length are of one slice, and the slices don't overlap
-        let number = unsafe { (A::calls().frame)(self.state.as_mut_ptr(), STATE, bytes.as_ptr(), bytes.len(), answer.as_mut_ptr(), FRAME_ANSWER) };
+        let number = unsafe { (A::calls().frame)(state.as_mut_ptr(), state.len(), bytes.as_ptr(), bytes.len(), answer.as_mut_ptr(), FRAME_ANSWER) };
         match number {
             0 => Ok(word(&answer, 0).count_ones() as usize),
             refusal => Err(refusal),
@@ -113,7 +126,7 @@ impl<A: Archive> Method for Engine<A> {
     fn list(&self, q: usize) -> Vec<(u32, u32)> {
         let mut answer = [0; LIST_ANSWER];
         // SAFETY: as above
-        assert_eq!(unsafe { (A::calls().list)(self.state.as_ptr(), STATE, q as u32, answer.as_mut_ptr(), LIST_ANSWER) }, 0);
+        assert_eq!(unsafe { (A::calls().list)(self.state.as_ptr(), self.state.len(), q as u32, answer.as_mut_ptr(), LIST_ANSWER) }, 0);
         (0..word(&answer, 0) as usize).map(|i| (word(&answer, 1 + i), word(&answer, 17 + i))).collect()
     }
 }

@@ -3,7 +3,7 @@
 
 use crate::plain::{read, Method};
 use crate::proved::Proved;
-use passage::Frame;
+use passage::{Form, Frame};
 use std::hint::black_box;
 use std::time::Instant;
 
@@ -18,7 +18,7 @@ fn nanoseconds(mut call: impl FnMut()) -> f64 {
 }
 
 fn pairs(n: u32) -> Vec<(u32, u32)> {
-    (0..n).map(|i| (60 * i + 7, i % 9 + 1)).collect()
+    (0..n).map(|i| (30 * i + 7, i % 9 + 1)).collect()
 }
 
 pub fn print() {
@@ -26,10 +26,12 @@ pub fn print() {
     engine.frame(&Frame::Tick { time: u32::MAX }.bytes()).expect("an accepted tick");
     println!("| frame | ratio |\n|---|---|");
     let mut times = String::from("In nanoseconds, proved and plain:");
+    let message = |form, n| Frame::Message { time: 123_456, serial: 98_765, form, pairs: pairs(n) };
     for (name, frame) in [
-        ("message of 16 pairs", Frame::Message { time: 123_456, serial: 98_765, urgency: None, pairs: pairs(16) }),
-        ("message of 8 pairs", Frame::Message { time: 123_456, serial: 98_765, urgency: None, pairs: pairs(8) }),
-        ("urgent message of 8 pairs", Frame::Message { time: 123_456, serial: 98_765, urgency: Some(2), pairs: pairs(8) }),
+        ("message of 16 pairs", message(Form::Plain, 16)),
+        ("message of 8 pairs", message(Form::Plain, 8)),
+        ("urgent message of 8 pairs", message(Form::Graded(2), 8)),
+        ("long message of 32 pairs", message(Form::Long(2), 32)),
         ("tick", Frame::Tick { time: 123_456 }),
         ("cancel", Frame::Cancel { time: 123_456, serial: 98_765 }),
         ("register of 8 terms", Frame::Register { time: 123_456, number: 17, k: 9, terms: pairs(8) }),

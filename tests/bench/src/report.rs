@@ -2,7 +2,7 @@
 
 use crate::measure::{beside, measured, Row, EARLIER, RIVALS};
 use crate::proved::Earlier;
-use crate::workload::{Departure, Passage, Setting, GRADED, MESSAGES, SEED, SHARED, UNGRADED};
+use crate::workload::{Departure, Passage, Setting, Workload, GRADED, MESSAGES, SEED, SHARED, UNGRADED, WORKLOADS};
 use crate::{impacts, plot, reading, search};
 
 /// The classroom: so many engines on one machine, each taking in so many messages.
@@ -13,7 +13,7 @@ const BOARD_MESSAGES: usize = 400;
 const DEPARTURES: usize = 50;
 
 /// So few terms that, each being counted once, most scores are equal.
-const TIED_TERMS: u64 = 4;
+const TIED: Workload = Workload::short("ties", 4);
 
 /// The rivals of the first table end here, and those of the others, without the full re-rank, start here.
 const FIRST: usize = 6;
@@ -38,11 +38,11 @@ fn two_digits(ratios: &[f64]) -> Vec<String> {
 fn all_settings() -> Vec<Row> {
     head(&["shared terms", "N", "queries"], 0..FIRST, &["frames that reach no query"]);
     let mut rows = Vec::new();
-    for (terms, shared) in SHARED {
+    for workload in WORKLOADS {
         for capacity in [16, 64, 256] {
             for queries in [1, 8, 32] {
-                let row = measured(&[&Passage::new(Setting { capacity, queries, terms }, MESSAGES, SEED)], &RIVALS);
-                let known = vec![shared.into(), capacity.to_string(), queries.to_string()];
+                let row = measured(&[&Passage::new(Setting { capacity, queries, workload }, MESSAGES, SEED)], &RIVALS);
+                let known = vec![workload.name.into(), capacity.to_string(), queries.to_string()];
                 line(&[known, two_digits(&row.ratios[..FIRST]), vec![format!("{:.1} %", 100.0 * row.idle)]].concat());
                 rows.push(row);
             }
@@ -59,10 +59,7 @@ fn quick_line(known: &str, row: &Row) {
 
 fn largest(rows: &[Row]) {
     head(&["shared terms", "queries", "messages per second"], QUICK..RIVALS.len(), &[]);
-    for (terms, shared) in SHARED {
-        let of_these = |r: &&Row| r.setting.capacity == 256 && r.setting.terms == terms;
-        rows.iter().filter(of_these).for_each(|row| quick_line(shared, row));
-    }
+    rows.iter().filter(|r| r.setting.capacity == 256).for_each(|row| quick_line(row.setting.workload.name, row));
 }
 
 /// A passage for each engine of a classroom, from a seed of its own.
@@ -73,7 +70,7 @@ fn each_its_own(passage: impl Fn(u64) -> Passage) -> Vec<Passage> {
 fn classroom() {
     head(&["messages", "queries", "messages per second for each"], QUICK..RIVALS.len(), &[]);
     for queries in [1, 32] {
-        let setting = Setting { capacity: 256, queries, terms: SHARED[0].0 };
+        let setting = Setting { capacity: 256, queries, workload: SHARED[0] };
         let own = each_its_own(|seed| Passage::new(setting, BOARD_MESSAGES, seed));
         let own: Vec<_> = own.iter().collect();
         quick_line("the same", &measured(&vec![own[0]; own.len()], &RIVALS[QUICK..]));
@@ -91,11 +88,11 @@ fn compared(known: &[String], first: &[Passage], second: &[Passage]) {
 /// Departures from full windows, by ticks and by cancellations.
 fn cancellations() {
     head(&["shared terms", "queries", "a cancellation over a tick"], QUICK..RIVALS.len(), &[]);
-    for (terms, shared) in SHARED {
+    for workload in SHARED {
         for queries in [1, 32] {
-            let setting = Setting { capacity: 256, queries, terms };
+            let setting = Setting { capacity: 256, queries, workload };
             let departing = |by| each_its_own(|seed| Passage::departing(setting, DEPARTURES, by, seed));
-            compared(&[shared.into(), queries.to_string()], &departing(Departure::Tick), &departing(Departure::Cancel));
+            compared(&[workload.name.into(), queries.to_string()], &departing(Departure::Tick), &departing(Departure::Cancel));
         }
     }
 }
@@ -105,8 +102,8 @@ fn ties() {
     head(&["N", "queries", "with urgencies over without"], QUICK..RIVALS.len(), &[]);
     for capacity in [16, 256] {
         for queries in [1, 32] {
-            let setting = Setting { capacity, queries, terms: TIED_TERMS };
-            let tied = |urgency| each_its_own(|seed| Passage::tied(setting, BOARD_MESSAGES, urgency, seed));
+            let setting = Setting { capacity, queries, workload: TIED };
+            let tied = |forms| each_its_own(|seed| Passage::tied(setting, BOARD_MESSAGES, forms, seed));
             compared(&[capacity.to_string(), queries.to_string()], &tied(UNGRADED), &tied(GRADED));
         }
     }
@@ -122,7 +119,7 @@ pub fn print(path: &str) {
     classroom();
     println!("\nDepartures from full windows: {BOARDS} engines, N 256, {DEPARTURES} messages from each:\n");
     cancellations();
-    println!("\nEqual scores ranked by urgency: {BOARDS} engines, {TIED_TERMS} terms in all, each counted once:\n");
+    println!("\nEqual scores ranked by urgency: {BOARDS} engines, {} terms in all, each counted once:\n", TIED.terms);
     ties();
     println!("\nA search asked for once, N 256; the ratio is the other way's time over the search's:\n");
     search::print();
@@ -133,17 +130,17 @@ pub fn print(path: &str) {
     std::fs::write(path, plot::svg(&rows)).unwrap_or_else(|e| panic!("{path}: {e}"));
 }
 
-/// The proved engine beside that of an earlier archive: one engine with each of the workloads, and the classroom with the same messages.
+/// The proved engine beside that of an earlier archive: one engine with each workload that both take, and the classroom with the same messages.
 pub fn beside_earlier(library: &str) {
     Earlier::load(library);
     println!("The earlier engine's time over this one's, N 256, so ABOVE 1 THIS ENGINE IS FASTER.\n");
     println!("| engines | shared terms | queries | messages per second for each | ratio |\n|---|---|---|---|---|");
     for (engines, messages) in [(1, MESSAGES), (BOARDS as usize, BOARD_MESSAGES)] {
-        for (terms, shared) in SHARED {
+        for workload in SHARED {
             for queries in [1, 32] {
-                let passage = Passage::new(Setting { capacity: 256, queries, terms }, messages, SEED);
+                let passage = Passage::new(Setting { capacity: 256, queries, workload }, messages, SEED);
                 let row = measured(&vec![&passage; engines], &[EARLIER]);
-                println!("| {engines} | {shared} | {queries} | {:.0} | {:.2} |", row.messages_per_second, row.ratios[0]);
+                println!("| {engines} | {} | {queries} | {:.0} | {:.2} |", workload.name, row.messages_per_second, row.ratios[0]);
             }
         }
     }

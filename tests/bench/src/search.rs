@@ -4,7 +4,7 @@
 use crate::full::Full;
 use crate::plain::{rank, Entry, Look, Method, Plain, Query, Walk, Wide, Window};
 use crate::proved::Proved;
-use crate::workload::{query, Passage, Setting, SEED, SHARED};
+use crate::workload::{query, Passage, Setting, Workload, SEED, WORKLOADS};
 use fennelrake_tests::engine::word;
 use fennelrake_tests::random::Random;
 use passage::Frame;
@@ -163,14 +163,15 @@ fn timed(b: &mut Boards, questions: &[Question]) -> [f64; WAYS.len()] {
     seconds
 }
 
-fn row(known: &str, p: &Passage, questions: &[Question]) {
+fn row(p: &Passage, questions: &[Question]) {
     let mut b = Boards::new(p);
     let (read, all) = counted(&mut b, questions);
     let seconds = timed(&mut b, questions);
     let ratios: Vec<_> = seconds[1..].iter().map(|s| format!("{:.2}", s / seconds[0])).collect();
     let each = |n: usize| n as f64 / questions.len() as f64;
     println!(
-        "| {known} | {:.0} | {} | {:.1} | {:.1} | {:.0} % |",
+        "| {} | {:.0} | {} | {:.1} | {:.1} | {:.0} % |",
+        p.setting.workload.name,
         questions.len() as f64 / seconds[0],
         ratios.join(" | "),
         each(read),
@@ -182,13 +183,14 @@ fn row(known: &str, p: &Passage, questions: &[Question]) {
 pub fn print() {
     let names: Vec<_> = WAYS[1..].iter().map(|w| w.0).collect();
     println!("| shared terms | searches per second | {} | postings read | of | share |\n|{}", names.join(" | "), "---|".repeat(5 + names.len()));
-    for (terms, shared) in SHARED {
+    for workload in WORKLOADS {
         let mut r = Random::new(SEED);
-        let questions: Vec<_> = (0..QUERIES).map(|_| query(&mut r, terms)).map(|(k, terms)| question(k, terms)).collect();
-        row(shared, &Passage::new(Setting { capacity: CAPACITY, queries: 0, terms }, 0, SEED), &questions);
+        let questions: Vec<_> = (0..QUERIES).map(|_| query(&mut r, workload.terms)).map(|(k, terms)| question(k, terms)).collect();
+        row(&Passage::new(Setting { capacity: CAPACITY, queries: 0, workload }, 0, SEED), &questions);
     }
     let mut r = Random::new(SEED);
     let eight = |r: &mut Random| (0..8).map(|t| (t, 1 + r.below(15) as u32)).collect();
     let questions: Vec<_> = (0..QUERIES).map(|_| question(16, eight(&mut r))).collect();
-    row("all eight, k 16", &Passage::dear(Setting { capacity: CAPACITY, queries: 0, terms: 8 }, SEED), &questions);
+    let workload = Workload::short("all eight, k 16", 8);
+    row(&Passage::dear(Setting { capacity: CAPACITY, queries: 0, workload }, SEED), &questions);
 }

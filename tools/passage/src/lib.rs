@@ -2,10 +2,52 @@
 
 pub mod text;
 
+/// The forms of a message. An urgency is 0 routine, 1 important, 2 vital.
+#[derive(Debug, Clone, Copy, PartialEq, Eq)]
+pub enum Form {
+    /// Kind 1, which says no urgency.
+    Plain,
+    /// Kind 6, which says one.
+    Graded(u32),
+    /// Kind 7, the same with room for more pairs.
+    Long(u32),
+}
+
+impl Form {
+    fn kind(self) -> u32 {
+        match self {
+            Form::Plain => 1,
+            Form::Graded(_) => 6,
+            Form::Long(_) => 7,
+        }
+    }
+
+    /// Kind 1 means routine.
+    pub fn urgency(self) -> u32 {
+        match self {
+            Form::Plain => 0,
+            Form::Graded(urgency) | Form::Long(urgency) => urgency,
+        }
+    }
+
+    /// How many pairs a message of this form has at most.
+    pub fn most(self) -> usize {
+        1 << self.widths().1
+    }
+
+    /// The bits of the urgency and of the number of pairs.
+    fn widths(self) -> (usize, usize) {
+        match self {
+            Form::Plain => (0, 4),
+            Form::Graded(_) => (2, 4),
+            Form::Long(_) => (2, 5),
+        }
+    }
+}
+
 #[derive(Debug, Clone, PartialEq, Eq)]
 pub enum Frame {
-    /// Of kind 1 where it has no urgency, else of kind 6: 0 is routine, 1 important, 2 vital.
-    Message { time: u32, serial: u32, urgency: Option<u32>, pairs: Vec<(u32, u32)> },
+    Message { time: u32, serial: u32, form: Form, pairs: Vec<(u32, u32)> },
     Tick { time: u32 },
     Register { time: u32, number: usize, k: usize, terms: Vec<(u32, u32)> },
     Drop { time: u32, number: usize },
@@ -33,6 +75,7 @@ impl Bits<'_> {
 }
 
 fn push(bits: &mut Vec<bool>, width: usize, value: u64) {
+    assert!(value >> width == 0, "{value} takes more than {width} bits");
     for i in (0..width).rev() {
         bits.push(value >> i & 1 == 1);
     }
@@ -54,19 +97,23 @@ impl Frame {
     }
 
     pub fn bytes(&self) -> Vec<u8> {
+        packed(&self.bits())
+    }
+
+    /// Its fields, bit by bit, without the fill.
+    pub fn bits(&self) -> Vec<bool> {
         let mut b = Vec::new();
         let head = |b: &mut Vec<bool>, kind: u64, time: u32| {
             push(b, 4, kind);
             push(b, 32, time as u64);
         };
         match self {
-            Frame::Message { time, serial, urgency, pairs } => {
-                head(&mut b, if urgency.is_some() { 6 } else { 1 }, *time);
+            Frame::Message { time, serial, form, pairs } => {
+                let (grade, count) = form.widths();
+                head(&mut b, form.kind() as u64, *time);
                 push(&mut b, 20, *serial as u64);
-                if let Some(u) = urgency {
-                    push(&mut b, 2, *u as u64);
-                }
-                push(&mut b, 4, pairs.len() as u64 - 1);
+                push(&mut b, grade, form.urgency() as u64);
+                push(&mut b, count, pairs.len() as u64 - 1);
                 for &(t, c) in pairs {
                     push(&mut b, 10, t as u64);
                     push(&mut b, 8, c as u64);
@@ -92,7 +139,7 @@ impl Frame {
                 push(&mut b, 20, *serial as u64);
             }
         }
-        packed(&b)
+        b
     }
 
     /// The frame that bytes are, or the first of 1 to 4, 14, 5 and 6 that applies.
@@ -125,19 +172,22 @@ impl Frame {
             Ok(ps)
         };
         match kind {
-            1 | 6 => {
-                let graded = kind == 6;
-                if b.left() < if graded { 26 } else { 24 } {
+            1 | 6 | 7 => {
+                let form = |urgency| match kind {
+                    1 => Form::Plain,
+                    6 => Form::Graded(urgency),
+                    _ => Form::Long(urgency),
+                };
+                let (grade, count) = form(0).widths();
+                if b.left() < 20 + grade + count {
                     return Err(3);
                 }
-                let serial = b.take(20);
-                let urgency = graded.then(|| b.take(2));
-                let m = b.take(4) as usize + 1;
+                let (serial, urgency, m) = (b.take(20), b.take(grade), b.take(count) as usize + 1);
                 let ps = taken(&mut b, m, 8)?;
-                if urgency == Some(3) {
+                if urgency == 3 {
                     return Err(14);
                 }
-                Ok(Frame::Message { time, serial, urgency, pairs: judged(ps)? })
+                Ok(Frame::Message { time, serial, form: form(urgency), pairs: judged(ps)? })
             }
             2 => taken(&mut b, 0, 0).map(|_| Frame::Tick { time }),
             3 => {

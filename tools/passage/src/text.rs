@@ -5,6 +5,7 @@
 //! register 0 query 0 k 2 5:1 9:2          time, number, list length, term:weight ..
 //! message 20 serial 2 5:1 9:4             time, serial, term:count ..: kind 1, which says no urgency
 //! message 30 serial 3 urgency vital 5:1   the same with an urgency, routine, important or vital: kind 6
+//! long 40 serial 4 urgency vital 5:1 ..   the same with up to 32 pairs, where a message has up to 16: kind 7
 //! tick 120
 //! drop 130 query 0
 //! cancel 140 serial 2                     time, and the serial of a message in force
@@ -14,7 +15,7 @@
 //! What follows a `#` and empty lines are left out. A search is no line: a session takes frames alone, and a host asks for one by the bytes of a
 //! register frame.
 
-use crate::Frame;
+use crate::{Form, Frame};
 
 /// By their numbers in a frame.
 const URGENCIES: [&str; 3] = ["routine", "important", "vital"];
@@ -91,16 +92,21 @@ fn serial(words: &mut std::slice::Iter<&str>) -> Result<u32, String> {
     Ok(number(words, "the serial", 0, 1_048_575)? as u32)
 }
 
-/// The urgency of a message, where the next word says that there is one.
-fn urgency(words: &mut std::slice::Iter<&str>) -> Result<Option<u32>, String> {
-    if words.as_slice().first() != Some(&"urgency") {
-        return Ok(None);
-    }
-    words.next();
+fn urgency(words: &mut std::slice::Iter<&str>) -> Result<u32, String> {
+    keyword(words, "urgency")?;
     let word = words.next().ok_or("the urgency is missing")?;
     match URGENCIES.iter().position(|u| u == word) {
-        Some(u) => Ok(Some(u as u32)),
+        Some(u) => Ok(u as u32),
         None => Err(format!("the urgency must be routine, important or vital, and is {}", shown(word))),
+    }
+}
+
+/// The form of a message, which says an urgency or doesn't.
+fn message_form(words: &mut std::slice::Iter<&str>) -> Result<Form, String> {
+    if words.as_slice().first() == Some(&"urgency") {
+        urgency(words).map(Form::Graded)
+    } else {
+        Ok(Form::Plain)
     }
 }
 
@@ -118,14 +124,15 @@ fn frame(words: &[&str]) -> Result<Vec<u8>, String> {
     if kind == "bytes" {
         return w.map(|b| byte(b)).collect();
     }
-    if !["message", "tick", "register", "drop", "cancel"].contains(&kind) {
-        return Err(format!("{} is no kind of frame: message, tick, register, drop, cancel or bytes", shown(kind)));
+    if !["message", "long", "tick", "register", "drop", "cancel"].contains(&kind) {
+        return Err(format!("{} is no kind of frame: message, long, tick, register, drop, cancel or bytes", shown(kind)));
     }
     let time = number(&mut w, "the time", 0, u32::MAX as u64)? as u32;
     let f = match kind {
-        "message" => {
-            let (serial, urgency) = (serial(&mut w)?, urgency(&mut w)?);
-            Frame::Message { time, serial, urgency, pairs: pairs(&mut w, 16, "count", 255)? }
+        "message" | "long" => {
+            let serial = serial(&mut w)?;
+            let form = if kind == "long" { Form::Long(urgency(&mut w)?) } else { message_form(&mut w)? };
+            Frame::Message { time, serial, form, pairs: pairs(&mut w, form.most(), "count", 255)? }
         }
         "tick" => Frame::Tick { time },
         "register" => {
@@ -232,9 +239,13 @@ impl Passage {
 fn line(f: &Frame) -> String {
     let pairs = |ps: &[(u32, u32)]| ps.iter().fold(String::new(), |s, p| s + &format!(" {}:{}", p.0, p.1));
     match f {
-        Frame::Message { time, serial, urgency, pairs: ps } => {
-            let urgency = urgency.map_or(String::new(), |u| format!(" urgency {}", URGENCIES[u as usize]));
-            format!("message {time} serial {serial}{urgency}{}", pairs(ps))
+        Frame::Message { time, serial, form, pairs: ps } => {
+            let kind = if matches!(form, Form::Long(_)) { "long" } else { "message" };
+            let urgency = match form {
+                Form::Plain => String::new(),
+                Form::Graded(u) | Form::Long(u) => format!(" urgency {}", URGENCIES[*u as usize]),
+            };
+            format!("{kind} {time} serial {serial}{urgency}{}", pairs(ps))
         }
         Frame::Tick { time } => format!("tick {time}"),
         Frame::Register { time, number, k, terms } => format!("register {time} query {number} k {k}{}", pairs(terms)),

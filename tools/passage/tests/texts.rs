@@ -28,6 +28,11 @@ fn frame(line: &str) -> String {
     format!("engine 3 100\n{line}\n")
 }
 
+/// So many pairs, each term counted once.
+fn counted(n: u32) -> String {
+    (0..n).map(|t| format!(" {t}:1")).collect()
+}
+
 fn told(text: &[u8], want: &str) {
     let ran = run(&[], text);
     let shown = String::from_utf8_lossy(text);
@@ -57,10 +62,10 @@ fn the_first_line() {
 #[test]
 fn frames() {
     for (line, want) in [
-        ("tock 5", "'tock' is no kind of frame: message, tick, register, drop, cancel or bytes"),
-        ("engine 3 100", "'engine' is no kind of frame: message, tick, register, drop, cancel or bytes"),
+        ("tock 5", "'tock' is no kind of frame: message, long, tick, register, drop, cancel or bytes"),
+        ("engine 3 100", "'engine' is no kind of frame: message, long, tick, register, drop, cancel or bytes"),
         // a session asks for none
-        ("search k 2 5:1 9:2", "'search' is no kind of frame: message, tick, register, drop, cancel or bytes"),
+        ("search k 2 5:1 9:2", "'search' is no kind of frame: message, long, tick, register, drop, cancel or bytes"),
         ("tick", "the time is missing"),
         ("tick 4294967296", "the time must be a number from 0 to 4294967295, and is '4294967296'"),
         ("tick -1", "the time must be a number from 0 to 4294967295, and is '-1'"),
@@ -81,10 +86,6 @@ fn frames() {
         ("message 10 serial 1 5:1:1", "a pair is a term 0 to 1023 and a count 1 to 255, and there is '5:1:1'"),
         ("message 10 serial 1 9:1 5:1", "terms must rise, and 5 follows 9"),
         ("message 10 serial 1 5:1 5:2", "terms must rise, and 5 follows 5"),
-        (
-            "message 10 serial 1 0:1 1:1 2:1 3:1 4:1 5:1 6:1 7:1 8:1 9:1 10:1 11:1 12:1 13:1 14:1 15:1 16:1",
-            "1 to 16 pairs are expected, and there are 17",
-        ),
         ("message 10 serial 1 urgency", "the urgency is missing"),
         ("message 10 serial 1 urgency 2 5:1", "the urgency must be routine, important or vital, and is '2'"),
         ("message 10 serial 1 urgency 5:1", "the urgency must be routine, important or vital, and is '5:1'"),
@@ -94,6 +95,14 @@ fn frames() {
         ("message 10 serial 1 vital 5:1", "a pair term:count is expected, and there is 'vital'"),
         ("message 10 serial 1 5:1 urgency vital", "a pair term:count is expected, and there is 'urgency'"),
         ("message 10 urgency vital serial 1 5:1", "'serial' is expected, and there is 'urgency'"),
+        ("long 10", "'serial' is missing"),
+        ("long 10 serial 1", "'urgency' is missing"),
+        ("long 10 serial 1 5:1", "'urgency' is expected, and there is '5:1'"),
+        ("long 10 serial 1 urgency", "the urgency is missing"),
+        ("long 10 serial 1 urgency 2 5:1", "the urgency must be routine, important or vital, and is '2'"),
+        ("long 10 serial 1 urgency vital", "1 to 32 pairs are expected, and there are 0"),
+        ("long 10 serial 1 urgency vital 5:0", "a pair is a term 0 to 1023 and a count 1 to 255, and there is '5:0'"),
+        ("long 10 serial 1 urgency vital 9:1 5:1", "terms must rise, and 5 follows 9"),
         ("register 0 k 2 5:1", "'query' is expected, and there is 'k'"),
         ("register 0 query 32 k 2 5:1", "the query must be a number from 0 to 31, and is '32'"),
         ("register 0 query 0 5:1", "'k' is expected, and there is '5:1'"),
@@ -114,6 +123,10 @@ fn frames() {
         ("bytes 0g", "a byte is two hexadecimal digits, and there is '0g'"),
     ] {
         told(frame(line).as_bytes(), &format!("line 2: {want}"));
+    }
+    for (head, most) in [("message 10 serial 1", 16), ("message 10 serial 1 urgency vital", 16), ("long 10 serial 1 urgency vital", 32)] {
+        let text = frame(&format!("{head}{}", counted(most + 1)));
+        told(text.as_bytes(), &format!("line 2: 1 to {most} pairs are expected, and there are {}", most + 1));
     }
     let long = frame(&format!("bytes{}", " 00".repeat(256)));
     told(long.as_bytes(), "line 2: a session's frame has at most 255 bytes, and there are 256");
@@ -156,6 +169,31 @@ fn urgencies() {
     ];
     let want: Vec<u8> = [2, 0, 100].into_iter().chain(frames.iter().flat_map(|f| std::iter::once(10).chain(*f))).collect();
     assert_eq!(input.output, want);
+    assert_eq!(String::from_utf8(run(&["--text"], &input.output).output).unwrap(), text);
+}
+
+/// A long message of one pair isn't the frame that a message with an urgency is, and each comes back as it was; so do the most pairs of all three.
+#[test]
+fn long_messages() {
+    let (most, longest) = (counted(16), counted(32));
+    let text = format!(
+        "engine 3 100\nlong 10 serial 1 urgency vital 5:1\nmessage 10 serial 1 urgency vital 5:1\nlong 10 serial 1 urgency routine{most}\n\
+         message 10 serial 1 urgency routine{most}\nmessage 10 serial 1{most}\nlong 10 serial 1 urgency important{longest}\n\
+         bytes 70 00 00 00 a0 00 01 c0 02 80 80\n"
+    );
+    let input = run(&[], text.as_bytes());
+    assert_eq!((input.status, input.said.as_str()), (0, ""));
+    let (mut frames, mut rest) = (Vec::new(), &input.output[3..]);
+    while let Some((&length, more)) = rest.split_first() {
+        let (frame, after) = more.split_at(length as usize);
+        frames.push(frame);
+        rest = after;
+    }
+    assert_eq!(frames.iter().map(|f| f.len()).collect::<Vec<_>>(), [11, 10, 44, 44, 44, 80, 11]);
+    assert_eq!(frames[0], [0x70, 0, 0, 0, 0xa0, 0, 1, 0x80, 2, 0x80, 0x80]);
+    assert_eq!(frames[1], [0x60, 0, 0, 0, 0xa0, 0, 1, 0x80, 5, 1]);
+    // from the eighth byte on: important and 32 pairs, 01 11111, then 0:1 and 1:1, 0000000000 00000001 0000000001 00000001
+    assert_eq!(frames[5][..13], [0x70, 0, 0, 0, 0xa0, 0, 1, 0x7e, 0, 0, 0x80, 0x20, 0x20]);
     assert_eq!(String::from_utf8(run(&["--text"], &input.output).output).unwrap(), text);
 }
 
