@@ -12,7 +12,7 @@ use borrow.Author.Tests.{lt-ltb}
 use Rattle.paper.specs.Frame.{Pairs, Valid, countWidth, mostPairs, serialWidth}
 use Rattle.paper.specs.Frame.Frame.{cancel}
 use Rattle.paper.specs.Window.{Message, withdrawn}
-use Rattle.paper.specs.Layout.{slots, slotAt, slotWords}
+use Rattle.paper.specs.Layout.{slots}
 use Rattle.paper.specs.Log.{Log, inForceNow, filledNow, filledAt, hasSerial, judgeFrame, accept, departs, stays}
 use Rattle.paper.specs.Order.{In, Ordered, Split}
 use Rattle.paper.specs.Order.Split.{goes, remains}
@@ -22,12 +22,11 @@ use Rattle.paper.proofs.LogLaws.{in-force-before, in-force-valid, filled-valid,
 use Rattle.paper.proofs.CancelLaws.{Withdrawal, withdrawal}
 use Rattle.paper.proofs.SortLaws.{split-first, split-apart, in-append, in-left, in-right}
 use Rattle.paper.proofs.WindowLaws.{active}
-use Rattle.memory.proofs.KeepsLaws.{keeps-wider}
 use Rattle.rank.specs.Listing.{hasNumber}
 use Rattle.window.specs.Slot.{Slot, slot, stored, silenced, held, ring, window, live, holdsSerial}
 use Rattle.window.specs.Cursor.{Moved}
 use Rattle.window.proofs.RingLaws.{moved-below, moved-parts}
-use Rattle.window.proofs.SlotLaws.{slot-kept, live-append, live-in, live-same}
+use Rattle.window.proofs.SlotLaws.{others-kept, cancelled-own, live-append, live-in, live-same}
 use Rattle.window.proofs.WalkLaws.{Found, found-in}
 use Rattle.window.proofs.LogLaws.{holds-serial, held-serial, live-shows}
 use Rattle.candidates.proofs.MatchLaws.{in-ring, ring-apart}
@@ -36,7 +35,7 @@ use Rattle.query.proofs.RecordLaws.{map-agree}
 use Rattle.engine.specs.Represents.{oldestOf, countOf, Represents}
 use Rattle.engine.specs.Inner.{Silenced, moving}
 use Rattle.engine.proofs.ArrivingLaws.{arriving-one}
-use Rattle.engine.proofs.StepLaws.{Prepared, beside, parts-apart, vacated, vacated-count, both-valid, numbers-held}
+use Rattle.engine.proofs.StepLaws.{Prepared, parts-apart, vacated, vacated-count, both-valid, numbers-held}
 
 -- ---- one taken out of a list
 
@@ -146,7 +145,7 @@ module _ (log : Log) (w : List ℕ) (r : Represents log w) (t s : ℕ) (v : Vali
 
   -- the others are as they were
   other : (i : ℕ) → i < slots → (i ≡ j → ⊥) → slot silent i ≡ slot w₂ i
-  other i h ne = slot-kept (keeps-wider {a′ = slotAt j} {e′ = slotAt j + slotWords} (omega arith) (omega arith) (quiet .one inside .keeps)) i (beside i j ne)
+  other i h ne = others-kept (quiet .one inside .keeps) (cancelled-own j) inside i h ne
 
   in-window : (i : ℕ) → In i (a ++ b) → In i (ring o′ n′)
   in-window i m = subst (In i) (sym (found .parts)) (⊎-elim (λ x. in-left i a (j ∷ b) x) (λ x. in-right i a (j ∷ b) (inr x)) (in-append i a b m))

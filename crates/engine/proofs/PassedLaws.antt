@@ -36,7 +36,7 @@ use Rattle.engine.proofs.RepresentsLaws.{query-terms}
 
 module _ {e : ℕ} {w v : List ℕ} (kept : Keeps (recordAt 0) e w v) where
   every-slot : (j : ℕ) → j < slots → slot v j ≡ slot w j
-  every-slot j h = slot-kept kept j (inl (omega arith))
+  every-slot j h = slot-kept kept j h (inl (omega arith))
 
   in-window : (o n : ℕ) → o < slots → (j : ℕ) → In j (ring o n) → slot v j ≡ slot w j
   in-window o n h j m = every-slot j (in-ring o n j h m .0)
@@ -116,7 +116,7 @@ module _ (q : ℕ) (w v : List ℕ) {m : Move} {coming going : List ℕ} {marks 
       stay : (p : ℕ) → p < q → HoldsAt v′ p (m .first) (m .count) (λ _. sa ++ ca) (getD qs p none)
       stay p l =
           holds-at-same v v′ p (here .long) (record-same here p (inl (omega arith))) (m .first) (m .count) (change .then-below)
-          (λ j k _. slot-kept here j (inl (omega arith))) (λ _. sa ++ ca) (getD qs p none) (terms p) (before .0 p l)
+          (λ j k _. slot-kept here j k (inl (omega arith))) (λ _. sa ++ ca) (getD qs p none) (terms p) (before .0 p l)
 
       untouched : (p : ℕ) → p < q → reachedIn w p (getD qs p none) (λ _. ga ++ ca) ≡ false → SameRecord w v′ p
       untouched p l u i k = here .below (recordAt p + i) (omega arith) ∙ before .2 p l u i k

@@ -49,7 +49,7 @@ module _ (p : ℕ) (w w′ : List ℕ) (keeps : Keeps (recordAt p) (recordAt p +
   header i h = keeps .below i (omega arith)
 
   every-slot : (j : ℕ) → j < slots → slot w′ j ≡ slot w j
-  every-slot j h = slot-kept keeps j (inl (omega arith))
+  every-slot j h = slot-kept keeps j h (inl (omega arith))
 
   -- memory holds a log that differs in that query alone
   one-record : (log log′ : Log) → Represents log w → log′ .N ≡ log .N → log′ .T ≡ log .T → log′ .clock ≡ log .clock → filledNow log′ ≡ filledNow log

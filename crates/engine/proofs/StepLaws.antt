@@ -14,7 +14,7 @@ use Rattle.paper.specs.Frame.{Frame, Valid, numbers}
 use Rattle.paper.specs.Frame.Frame.{message, tick, register, unregister, cancel}
 use Rattle.paper.specs.Rank.{Query}
 use Rattle.paper.specs.Window.{Message}
-use Rattle.paper.specs.Layout.{slots, slotAt, slotWords, clockAt, oldestAt, countAt, recordAt}
+use Rattle.paper.specs.Layout.{slots, timeAt, clockAt, oldestAt, countAt, recordAt}
 use Rattle.paper.specs.Log.{Log, queryAt, inForceNow, filledNow, hasSerial, timeOf, judgeFrame, arrivals, cancels, accept, departs, seen, stays, movedFor}
 use Rattle.paper.specs.Order.{In, Ordered, Split}
 use Rattle.paper.specs.Sort.{select}
@@ -25,12 +25,12 @@ use Rattle.paper.proofs.LogLaws.{vacates, keeps, places-before, departs-places,
 use Rattle.paper.proofs.SortLaws.{split-first, split-apart}
 use Rattle.paper.proofs.WindowLaws.{active}
 use Rattle.memory.specs.Keeps.{Keeps}
-use Rattle.memory.proofs.KeepsLaws.{keeps-refl, keeps-wider}
+use Rattle.memory.proofs.KeepsLaws.{keeps-refl}
 use Rattle.rank.specs.Listing.{hasNumber}
 use Rattle.window.specs.Slot.{Slot, slot, stored, held, ring, window, live, holdsSerial}
 use Rattle.window.specs.Cursor.{Moved}
 use Rattle.window.proofs.RingLaws.{moved-below, moved-parts}
-use Rattle.window.proofs.SlotLaws.{window-kept, live-append, live-in}
+use Rattle.window.proofs.SlotLaws.{window-kept, outside-kept, cancelled-own, live-append, live-in}
 use Rattle.window.proofs.LogLaws.{holds-serial, live-shows, live-all}
 use Rattle.candidates.specs.Flags.{inRing}
 use Rattle.candidates.proofs.MatchLaws.{ring-test, ring-apart}
@@ -49,14 +49,6 @@ outside o n h k =
     let e : ((o + n) % slots + slots - o) % slots ≡ n = omega arith in
     sym (ring-test o n ((o + n) % slots) (omega arith)) ∙ le-ltb (((o + n) % slots + slots - o) % slots) n (omega arith)
 
--- slots stand side by side
-pub beside : (j k : ℕ) → (j ≡ k → ⊥) → (slotAt j + slotWords ≤ slotAt k) ⊎ (slotAt k + slotWords ≤ slotAt j)
-beside j k ne = go (ltb j k) refl
-  where
-    go : (b : Bool) → ltb j k ≡ b → (slotAt j + slotWords ≤ slotAt k) ⊎ (slotAt k + slotWords ≤ slotAt j)
-    go true e = let h = ltb-true j k e in inl (omega arith)
-    go false e = let h = ltb-false j k e in inr (omega arith)
-
 -- no slot both leaves and keeps its place
 pub parts-apart : {o n o′ n′ : ℕ} → o < slots → n < slots → Moved o n o′ n′ → (j : ℕ) → In j (ring o (n - n′)) → In j (ring o′ n′) → ⊥
 parts-apart {o} {n} {o′} {n′} low few moved j gone stay =
@@ -64,12 +56,12 @@ parts-apart {o} {n} {o′} {n′} low few moved j gone stay =
     (subst (Ordered (λ i k. i ≡ k → ⊥)) (moved-parts low moved) (ring-apart o n low few)) gone stay
 
 -- a message silenced leaves header and records alone
-pub silenced-keeps : {j : ℕ} {w w′ : List ℕ} → Silenced j w w′ → Keeps (slotAt 0) (recordAt 0) w w′
+pub silenced-keeps : {j : ℕ} {w w′ : List ℕ} → Silenced j w w′ → Keeps (timeAt 0) (recordAt 0) w w′
 silenced-keeps {j} {w} {w′} s = go (ltb j slots) refl
   where
-    go : (b : Bool) → ltb j slots ≡ b → Keeps (slotAt 0) (recordAt 0) w w′
-    go true e = let l = ltb-true j slots e in keeps-wider (omega arith) (omega arith) (s .one l .keeps)
-    go false e = subst (Keeps (slotAt 0) (recordAt 0) w) (sym (s .none (ltb-false j slots e))) (keeps-refl (slotAt 0) (recordAt 0) w)
+    go : (b : Bool) → ltb j slots ≡ b → Keeps (timeAt 0) (recordAt 0) w w′
+    go true e = let l = ltb-true j slots e in outside-kept (s .one l .keeps) (cancelled-own j) l
+    go false e = subst (Keeps (timeAt 0) (recordAt 0) w) (sym (s .none (ltb-false j slots e))) (keeps-refl (timeAt 0) (recordAt 0) w)
 
 -- The memory once the header and an arriving message are written and no record is updated yet.
 pub record Prepared (f : Frame) (w : List ℕ) (o n o′ n′ newest : ℕ) (w₂ : List ℕ) : Type 0 where
@@ -96,7 +88,7 @@ module _ (log : Log) (f : Frame) (w : List ℕ) (r : Represents log w) (v : Vali
     (inForceNow log) (departs log f) (stays log f) (arrivals f))
     (places : window (g .silent) o′ (n′ + length (arrivals f)) ≡ map held (filledNow (accept log f)))
     (stable : (q : ℕ) → (queryAt (accept log f) q ≡ queryAt log q) × (names f q ≡ false)) where
-  quiet : Keeps (slotAt 0) (recordAt 0) w₂ (g .silent)
+  quiet : Keeps (timeAt 0) (recordAt 0) w₂ (g .silent)
   quiet = silenced-keeps (g .silenced)
 
   terms : (q : ℕ) (y : Query) → queryAt log q ≡ some y → Terms y
@@ -126,7 +118,7 @@ module _ (log : Log) (f : Frame) (w : List ℕ) (r : Represents log w) (v : Vali
       g .passed .right w₂ (oldestOf w) (countOf w) (inForceNow log) (departs log f) (stays log f) (arrivals f) (log .queries) (g .tables) change
       (r .sound .queries) before-holds
 
-  header : (i : ℕ) → i < slotAt 0 → getD w₃ i 0 ≡ getD w₂ i 0
+  header : (i : ℕ) → i < timeAt 0 → getD w₃ i 0 ≡ getD w₂ i 0
   header i h = g .passed .keeps .below i (omega arith) ∙ quiet .below i h
 
   holds-after : Represents (accept log f) w₃

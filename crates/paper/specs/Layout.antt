@@ -29,28 +29,23 @@ headerWords = countAt + 1
 abbrev pub slots : ℕ
 slots = mostMessages + 1
 
--- within a slot: the time, then the serial, the number of cells with the urgency above it, the cells
-abbrev pub serialOffset : ℕ
-serialOffset = 1
+-- In columns, since most of what is looked for is one word of every slot: the times, then the serials, the numbers of cells with the urgencies above
+-- them, and each slot's cells.
+abbrev pub timeAt : ℕ → ℕ
+timeAt j = headerWords + j
 
-abbrev pub cellCountOffset : ℕ
-cellCountOffset = serialOffset + 1
+abbrev pub serialAt : ℕ → ℕ
+serialAt j = timeAt slots + j
+
+abbrev pub cellCountAt : ℕ → ℕ
+cellCountAt j = serialAt slots + j
 
 -- the number of cells is below this, and the urgency is counted in it
 abbrev pub cellLimit : ℕ
 cellLimit = 64
 
-abbrev pub cellsOffset : ℕ
-cellsOffset = cellCountOffset + 1
-
-abbrev pub slotWords : ℕ
-slotWords = cellsOffset + mostPairs
-
-abbrev pub slotAt : ℕ → ℕ
-slotAt j = headerWords + slotWords * j
-
 abbrev pub cellsAt : ℕ → ℕ
-cellsAt j = slotAt j + cellsOffset
+cellsAt j = cellCountAt slots + mostPairs * j
 
 -- ---- the query records, after the ring
 
@@ -84,7 +79,7 @@ abbrev pub recordWords : ℕ
 recordWords = flagsOffset + flagWords
 
 abbrev pub recordAt : ℕ → ℕ
-recordAt q = slotAt slots + recordWords * q
+recordAt q = cellsAt slots + recordWords * q
 
 abbrev pub sizeIn : ℕ → ℕ
 sizeIn q = recordAt q + sizeOffset

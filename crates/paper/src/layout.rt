@@ -17,26 +17,24 @@ pub const OLDEST: usize = 3;
 
 pub const COUNT: usize = 4;
 
-// ---- the ring: where it starts, how many slots it has, and how long each is; within a slot the time, then these
-
-pub const RING: usize = COUNT + 1;
+// ---- the ring: how many slots it has, and its columns
 
 pub const SLOTS: usize = MOST_MESSAGES as usize + 1;
 
-pub const SERIAL: usize = 1;
+pub const SLOT_TIMES: usize = COUNT + 1;
 
-pub const CELL_COUNT: usize = SERIAL + 1;
+pub const SLOT_SERIALS: usize = SLOT_TIMES + SLOTS;
+
+pub const CELL_COUNTS: usize = SLOT_SERIALS + SLOTS;
 
 // The number of cells is below this, and the urgency is counted in it.
 pub const CELL_LIMIT: u32 = 64;
 
-pub const CELLS: usize = CELL_COUNT + 1;
-
-pub const SLOT: usize = CELLS + MOST_PAIRS;
+pub const CELLS: usize = CELL_COUNTS + SLOTS;
 
 // ---- the records: where they start, and how long each is; within a record k, then these
 
-pub const RECORDS: usize = RING + SLOT * SLOTS;
+pub const RECORDS: usize = CELLS + MOST_PAIRS * SLOTS;
 
 pub const SIZE: usize = 1;
 

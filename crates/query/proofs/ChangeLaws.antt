@@ -437,7 +437,7 @@ module _ {w₀ w : List ℕ} {q o n : ℕ} {m : Move} {aa ga sa ca : List Messag
       ∙ told .exact j
       ∙ rw same-thresholds
       (cells-same w w′ (query .terms) (thresholds w q size) (m .first) (m .count) j
-      (λ i. let h = slot-in (m .first) (m .count) j i in slot-kept (kept .keeps) j (inl (omega arith))))
+      (λ i. let h = slot-in (m .first) (m .count) j i in slot-kept (kept .keeps) j h (inl (omega arith))))
 
   above : candidates w′ w′ q (m .first) (m .count) ≡ serials (Threshold.candidates (query .terms) (thresholds w′ q size) (sa ++ ca))
   above =

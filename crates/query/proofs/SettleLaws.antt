@@ -223,7 +223,7 @@ module _ {w : List ℕ} {q o n : ℕ} {fs : List ℕ} {r : Query} {hs hs′ : Li
     flagged j =
         ap (λ (xs : List ℕ). flagOf xs j) (flags-stored kept)
         ∙ exact j
-        ∙ rw first-ones (cells-same w w′ (query .terms) (take (r .n) hs′) o n j (λ i. let h = slot-in o n j i in slot-kept (kept .keeps) j (inl (omega arith))))
+        ∙ rw first-ones (cells-same w w′ (query .terms) (take (r .n) hs′) o n j (λ i. let h = slot-in o n j i in slot-kept (kept .keeps) j h (inl (omega arith))))
 
     ranked : keys w′ q ≡ keyed (ranking query ms)
     ranked = keys-stored kept ∙ ready .ranked

@@ -3,37 +3,37 @@ use Prim.Native.Nat.{ℕ, zero, suc, _+_, _*_, _/_, _%_, _^_, _≤_, _<_}
 use native.Mathlib.Nat.{not-suc-le-zero, min-le-left, min-le-right, min-eq-left}
 use native.Mathlib.Omega.{arith}
 use mathlib.Core.Path.{_≡_, refl, sym, ap, ap₂, _∙_}
-use mathlib.Core.Bool.{true, false}
+use mathlib.Core.Bool.{Bool, true, false}
 use mathlib.Core.Logic.{_⊎_, inl, inr, ⊎-elim}
 use mathlib.Core.List.{List, [], _∷_, _++_, map}
 use lib.ListN.{length, getD, set, take, drop, length-set, length-take, length-drop}
 use lib.Seq.{getD-take, getD-drop, getD-set-same, getD-set-other}
 use lib.Dec.{ltb}
-use borrow.Author.Tests.{ltb-false}
+use borrow.Author.Tests.{ltb-true, ltb-false}
 use Rattle.paper.specs.Frame.{level, mostPairs}
 use Rattle.paper.specs.Impact.{impact, squares}
 use Rattle.paper.specs.Order.{In}
 use Rattle.paper.specs.Sort.{select}
 use Rattle.paper.specs.Window.{Message}
 use Rattle.paper.specs.Write.{side-by-side}
-use Rattle.paper.specs.Layout.{slots, serialOffset, cellCountOffset, cellLimit, slotWords, slotAt, cellsAt, recordAt, stateLength}
+use Rattle.paper.specs.Layout.{slots, cellLimit, timeAt, serialAt, cellCountAt, cellsAt, recordAt, stateLength, stateWords}
 use Rattle.paper.proofs.FrameLaws.{level-most}
 use Rattle.paper.proofs.SortLaws.{in-select, select-in, select-map, select-append}
 use Rattle.memory.specs.Words.{words, putWord}
 use Rattle.memory.specs.Keeps.{Keeps, Stored}
 use Rattle.memory.proofs.WordLaws.{words-length, put-word, put-length}
-use Rattle.memory.proofs.KeepsLaws.{keeps-trans, keeps-wider, keeps-set, keeps-at, keeps-part}
+use Rattle.memory.proofs.KeepsLaws.{keeps-at, same-part}
 use Rattle.impact.specs.Cell.{packed, cellOf, cellsOf, squaresOf}
 use Rattle.impact.proofs.CellLaws.{squares-side}
-use Rattle.window.specs.Slot.{Slot, slot, sizeAt, gradeIn, stored, silenced, ring, window, live}
-use Rattle.window.specs.Cursor.{Written, Cancelled}
+use Rattle.window.specs.Slot.{Slot, InSlot, slot, sizeAt, gradeIn, stored, silenced, ring, window, live}
+use Rattle.window.specs.Cursor.{KeepsBut, Written, Cancelled}
 use Rattle.window.proofs.RingLaws.{ring-length, ring-below}
 
 -- ---- the cells of a slot
 
 module _ (s : List ℕ) (j : ℕ) (long : length s ≡ stateLength) (below : j < slots) where
   pub size-most : sizeAt (words s) j ≤ mostPairs
-  size-most = min-le-right (getD (words s) (slotAt j + cellCountOffset) 0 % cellLimit) mostPairs
+  size-most = min-le-right (getD (words s) (cellCountAt j) 0 % cellLimit) mostPairs
 
   pub slot-size : length (slot (words s) j .cells) ≡ sizeAt (words s) j
   unfolding slot
@@ -48,7 +48,7 @@ module _ (s : List ℕ) (j : ℕ) (long : length s ≡ stateLength) (below : j <
 pub silent-cells : (w : List ℕ) (j : ℕ) → ltb 0 (slot w j .size) ≡ false → slot w j .cells ≡ []
 unfolding slot
 silent-cells w j e =
-    let size : ℕ = getD w (slotAt j + cellCountOffset) 0 % cellLimit in
+    let size : ℕ = getD w (cellCountAt j) 0 % cellLimit in
     let none : sizeAt w j ≡ 0 = omega (arith, ltb-false 0 size e, min-le-left size mostPairs) in
     ap (λ (n : ℕ). take n (drop (cellsAt j) w)) none
 
@@ -77,19 +77,66 @@ live-slots w js = sym (select-map (slot w) (λ (x : Slot). ltb 0 (x .size)) js)
 -- ---- what a slot and a window read
 
 -- a slot reads its own words only
-pub slot-kept : {a e : ℕ} {w w′ : List ℕ} → Keeps a e w w′ → (j : ℕ) → (slotAt j + slotWords ≤ a) ⊎ (e ≤ slotAt j) → slot w′ j ≡ slot w j
+slot-same : (w w′ : List ℕ) (j : ℕ) → length w′ ≡ length w → ((i : ℕ) → InSlot j i → getD w′ i 0 ≡ getD w i 0) → slot w′ j ≡ slot w j
 unfolding slot
-slot-kept {a} {e} {w} {w′} kept j d =
-    let most : sizeAt w j ≤ mostPairs = min-le-right (getD w (slotAt j + cellCountOffset) 0 % cellLimit) mostPairs in
+slot-same w w′ j long same =
+    let most : sizeAt w j ≤ mostPairs = min-le-right (getD w (cellCountAt j) 0 % cellLimit) mostPairs in
     rw (
-      word (slotAt j) (omega arith) (omega arith),
-      word (slotAt j + serialOffset) (omega arith) (omega arith),
-      word (slotAt j + cellCountOffset) (omega arith) (omega arith),
-      keeps-part kept (cellsAt j) (sizeAt w j) (⊎-elim (λ b. inl (omega arith)) (λ b. inr (omega arith)) d),
+      same (timeAt j) (inl refl),
+      same (serialAt j) (inr (inl refl)),
+      same (cellCountAt j) (inr (inr (inl refl))),
+      same-part w′ w (cellsAt j) (sizeAt w j) (simp (length-take, length-drop) (omega arith)) (λ i l h. same i (inr (inr (inr (l, omega arith))))),
     )
-  where
-    word : (i : ℕ) → slotAt j ≤ i → i < slotAt j + slotWords → getD w′ i 0 ≡ getD w i 0
-    word i l h = keeps-at kept i (⊎-elim (λ b. inl (omega arith)) (λ b. inr (omega arith)) d)
+
+-- the slots' words lie in the ring
+in-ring-words : (j i : ℕ) → j < slots → InSlot j i → (timeAt 0 ≤ i) × (i < recordAt 0)
+in-ring-words j i h (inl e) = (omega arith, omega arith)
+in-ring-words j i h (inr (inl e)) = (omega arith, omega arith)
+in-ring-words j i h (inr (inr (inl e))) = (omega arith, omega arith)
+in-ring-words j i h (inr (inr (inr e))) = (omega arith, omega arith)
+
+-- and no two slots share one: they are of one column, or of two
+words-apart : (j k i : ℕ) → j < slots → k < slots → (j ≡ k → ⊥) → InSlot j i → InSlot k i → ⊥
+words-apart j k i hj hk ne (inl a) (inl b) = ne (omega arith)
+words-apart j k i hj hk ne (inr (inl a)) (inr (inl b)) = ne (omega arith)
+words-apart j k i hj hk ne (inr (inr (inl a))) (inr (inr (inl b))) = ne (omega arith)
+words-apart j k i hj hk ne (inr (inr (inr a))) (inr (inr (inr b))) = ne (omega arith)
+words-apart j k i hj hk ne (inl a) (inr (inl b)) = omega arith
+words-apart j k i hj hk ne (inl a) (inr (inr (inl b))) = omega arith
+words-apart j k i hj hk ne (inl a) (inr (inr (inr b))) = omega arith
+words-apart j k i hj hk ne (inr (inl a)) (inl b) = omega arith
+words-apart j k i hj hk ne (inr (inl a)) (inr (inr (inl b))) = omega arith
+words-apart j k i hj hk ne (inr (inl a)) (inr (inr (inr b))) = omega arith
+words-apart j k i hj hk ne (inr (inr (inl a))) (inl b) = omega arith
+words-apart j k i hj hk ne (inr (inr (inl a))) (inr (inl b)) = omega arith
+words-apart j k i hj hk ne (inr (inr (inl a))) (inr (inr (inr b))) = omega arith
+words-apart j k i hj hk ne (inr (inr (inr a))) (inl b) = omega arith
+words-apart j k i hj hk ne (inr (inr (inr a))) (inr (inl b)) = omega arith
+words-apart j k i hj hk ne (inr (inr (inr a))) (inr (inr (inl b))) = omega arith
+
+-- what is written before or after the ring changes no slot
+pub slot-kept : {a e : ℕ} {w w′ : List ℕ} → Keeps a e w w′ → (j : ℕ) → j < slots → (recordAt 0 ≤ a) ⊎ (e ≤ timeAt 0) → slot w′ j ≡ slot w j
+slot-kept {w = w} {w′} kept j h d =
+    slot-same w w′ j (kept .long)
+    (λ i own. let b = in-ring-words j i h own in keeps-at kept i (⊎-elim (λ l. inl (omega arith)) (λ l. inr (omega arith)) d))
+
+-- where only words of slot j are changed, the other slots are as they were, and so is all outside the ring
+module _ {Changed : ℕ → Type 0} {w w′ : List ℕ} {j : ℕ} (kept : KeepsBut Changed w w′) (own : (i : ℕ) → Changed i → InSlot j i) (low : j < slots) where
+  pub others-kept : (k : ℕ) → k < slots → (k ≡ j → ⊥) → slot w′ k ≡ slot w k
+  others-kept k h ne = slot-same w w′ k (kept .long) (λ i m. kept .rest i (λ c. words-apart k j i h low ne m (own i c)))
+
+  pub outside-kept : Keeps (timeAt 0) (recordAt 0) w w′
+  outside-kept =
+      record {
+        long = kept .long;
+        below = λ i h. kept .rest i (λ c. let b = in-ring-words j i low (own i c) in omega arith);
+        above = λ i h. kept .rest i (λ c. let b = in-ring-words j i low (own i c) in omega arith);
+      }
+
+-- what a cancellation changes is of its slot
+pub cancelled-own : (j i : ℕ) → (i ≡ serialAt j) ⊎ (i ≡ cellCountAt j) → InSlot j i
+cancelled-own j i (inl e) = inr (inl e)
+cancelled-own j i (inr e) = inr (inr (inl e))
 
 -- a window reads its own slots only
 slots-agree : (w w′ js : List ℕ) → ((i : ℕ) → i < length js → slot w′ (getD js i 0) ≡ slot w (getD js i 0)) → map (slot w′) js ≡ map (slot w) js
@@ -100,10 +147,10 @@ window-agree : (w w′ : List ℕ) (o n : ℕ) → ((i : ℕ) → i < n → slot
 window-agree w w′ o n same = slots-agree w w′ (ring o n) (λ i h. same i (let l = ring-length o n in omega arith))
 
 -- what is written before or after the ring doesn't change a window
-pub window-kept : {a e : ℕ} {w w′ : List ℕ} → Keeps a e w w′ → (recordAt 0 ≤ a) ⊎ (e ≤ slotAt 0) → (o n : ℕ) → o < slots → window w′ o n ≡ window w o n
+pub window-kept : {a e : ℕ} {w w′ : List ℕ} → Keeps a e w w′ → (recordAt 0 ≤ a) ⊎ (e ≤ timeAt 0) → (o n : ℕ) → o < slots → window w′ o n ≡ window w o n
 window-kept {a} {e} {w} {w′} kept d o n low =
     window-agree w w′ o n
-    (λ i h. let b = ring-below o n i low h in slot-kept kept (getD (ring o n) i 0) (⊎-elim (λ l. inl (omega arith)) (λ l. inr (omega arith)) d))
+    (λ i h. slot-kept kept (getD (ring o n) i 0) (ring-below o n i low h) d)
 
 -- ---- a message written
 
@@ -133,52 +180,64 @@ module _ (m : ℕ) (ts fs : List ℕ) (ht : m ≤ length ts) (hf : m ≤ length 
   cell-at i h = cells-in (squares (side-by-side m ts fs)) m ts fs ht hf .1 i h ∙ ap (λ (n : ℕ). packed (getD ts i 0) (getD fs i 0) (impact (getD fs i 0) n)) (squares-side m ts fs ht)
 
 -- in words: time, serial and the number of cells with the urgency above it, then the cells
-slot-written : (j : ℕ) (x : Message) (m v : ℕ) (w w′ : List ℕ) → slotAt j + slotWords ≤ length w → m ≤ mostPairs → length (x .pairs) ≡ m
+slot-written : (j : ℕ) (x : Message) (m v : ℕ) (w w′ : List ℕ) → j < slots → length w ≡ stateWords → m ≤ mostPairs → length (x .pairs) ≡ m
     → v ≡ m + cellLimit * level (x .urgency)
-    → Stored (cellsAt j) m (cellsOf (x .pairs)) (set (set (set w (slotAt j) (x .time)) (slotAt j + serialOffset) (x .serial)) (slotAt j + cellCountOffset) v) w′
+    → Stored (cellsAt j) m (cellsOf (x .pairs)) (set (set (set w (timeAt j) (x .time)) (serialAt j) (x .serial)) (cellCountAt j) v) w′
     → Written j x w w′
 unfolding slot stored
-slot-written j x m v w w′ long few all is cells = record {
-  keeps =
-      keeps-trans (one w (slotAt j) (x .time) (omega arith) (omega arith))
-      (keeps-trans (one w₁ (slotAt j + serialOffset) (x .serial) (omega arith) (omega arith))
-      (keeps-trans (one w₂ (slotAt j + cellCountOffset) v (omega arith) (omega arith)) (keeps-wider (omega arith) (omega arith) (cells .keeps))));
+slot-written j x m v w w′ low long few all is cells = record {
+  keeps = record { long = cells .keeps .long ∙ long₃; rest = rest };
   holds = rw (time-is, serial-is, word-is, urgency-is, size-is, min-eq-left few, cells .reads, all);
 }
   where
     w₁ : List ℕ
-    w₁ = set w (slotAt j) (x .time)
+    w₁ = set w (timeAt j) (x .time)
 
     w₂ : List ℕ
-    w₂ = set w₁ (slotAt j + serialOffset) (x .serial)
+    w₂ = set w₁ (serialAt j) (x .serial)
 
     w₃ : List ℕ
-    w₃ = set w₂ (slotAt j + cellCountOffset) v
+    w₃ = set w₂ (cellCountAt j) v
 
-    one : (u : List ℕ) (i y : ℕ) → slotAt j ≤ i → i < slotAt j + slotWords → Keeps (slotAt j) (slotAt j + slotWords) u (set u i y)
-    one u i y l h = keeps-wider l h (keeps-set u i y)
+    long₃ : length w₃ ≡ length w
+    long₃ = length-set w₂ (cellCountAt j) v ∙ length-set w₁ (serialAt j) (x .serial) ∙ length-set w (timeAt j) (x .time)
+
+    rest : (i : ℕ) → (InSlot j i → ⊥) → getD w′ i 0 ≡ getD w i 0
+    rest i out =
+        keeps-at (cells .keeps) i (outside (ltb i (cellsAt j)) refl)
+        ∙ getD-set-other w₂ (cellCountAt j) i v 0 (λ e. out (inr (inr (inl e))))
+        ∙ getD-set-other w₁ (serialAt j) i (x .serial) 0 (λ e. out (inr (inl e)))
+        ∙ getD-set-other w (timeAt j) i (x .time) 0 (λ e. out (inl e))
+      where
+        outside : (b : Bool) → ltb i (cellsAt j) ≡ b → (i < cellsAt j) ⊎ (cellsAt j + m ≤ i)
+        outside true e = inl (ltb-true i (cellsAt j) e)
+        outside false e = inr (after (ltb i (cellsAt (suc j))) refl)
+          where
+            after : (b : Bool) → ltb i (cellsAt (suc j)) ≡ b → cellsAt j + m ≤ i
+            after true l = absurd (out (inr (inr (inr (ltb-false i (cellsAt j) e, ltb-true i (cellsAt (suc j)) l)))))
+            after false l = let k = ltb-false i (cellsAt (suc j)) l in omega arith
 
     before : (i : ℕ) → i < cellsAt j → getD w′ i 0 ≡ getD w₃ i 0
     before i h = cells .keeps .below i h
 
-    time-is : getD w′ (slotAt j) 0 ≡ x .time
+    time-is : getD w′ (timeAt j) 0 ≡ x .time
     time-is =
-        before (slotAt j) (omega arith)
-        ∙ getD-set-other w₂ (slotAt j + cellCountOffset) (slotAt j) v 0 (omega arith)
-        ∙ getD-set-other w₁ (slotAt j + serialOffset) (slotAt j) (x .serial) 0 (omega arith)
-        ∙ getD-set-same w (slotAt j) (x .time) 0 (omega arith)
+        before (timeAt j) (omega arith)
+        ∙ getD-set-other w₂ (cellCountAt j) (timeAt j) v 0 (omega arith)
+        ∙ getD-set-other w₁ (serialAt j) (timeAt j) (x .serial) 0 (omega arith)
+        ∙ getD-set-same w (timeAt j) (x .time) 0 (omega arith)
 
-    serial-is : getD w′ (slotAt j + serialOffset) 0 ≡ x .serial
+    serial-is : getD w′ (serialAt j) 0 ≡ x .serial
     serial-is =
-        before (slotAt j + serialOffset) (omega arith)
-        ∙ getD-set-other w₂ (slotAt j + cellCountOffset) (slotAt j + serialOffset) v 0 (omega arith)
-        ∙ getD-set-same w₁ (slotAt j + serialOffset) (x .serial) 0 (let l = length-set w (slotAt j) (x .time) in omega arith)
+        before (serialAt j) (omega arith)
+        ∙ getD-set-other w₂ (cellCountAt j) (serialAt j) v 0 (omega arith)
+        ∙ getD-set-same w₁ (serialAt j) (x .serial) 0 (let l = length-set w (timeAt j) (x .time) in omega arith)
 
-    word-is : getD w′ (slotAt j + cellCountOffset) 0 ≡ v
+    word-is : getD w′ (cellCountAt j) 0 ≡ v
     word-is =
-        before (slotAt j + cellCountOffset) (omega arith)
-        ∙ getD-set-same w₂ (slotAt j + cellCountOffset) v 0
-        (let l = length-set w (slotAt j) (x .time) in let k = length-set w₁ (slotAt j + serialOffset) (x .serial) in omega arith)
+        before (cellCountAt j) (omega arith)
+        ∙ getD-set-same w₂ (cellCountAt j) v 0
+        (let l = length-set w (timeAt j) (x .time) in let k = length-set w₁ (serialAt j) (x .serial) in omega arith)
 
     urgency-is : v / cellLimit ≡ level (x .urgency)
     urgency-is = omega arith
@@ -188,52 +247,53 @@ slot-written j x m v w w′ long few all is cells = record {
 
 -- as the words are put one after the other
 pub message-written : (j : ℕ) (x : Message) (m : ℕ) (s₀ s₁ s₂ s₃ : List ℕ) {v : ℕ} {w′ : List ℕ} → length s₀ ≡ stateLength → j < slots → m ≤ mostPairs
-    → length (x .pairs) ≡ m → v ≡ m + cellLimit * level (x .urgency) → x .time < 2 ^ 32 → x .serial < 2 ^ 32 → s₁ ≡ putWord s₀ (slotAt j) (x .time)
-    → s₂ ≡ putWord s₁ (slotAt j + serialOffset) (x .serial) → s₃ ≡ putWord s₂ (slotAt j + cellCountOffset) v
+    → length (x .pairs) ≡ m → v ≡ m + cellLimit * level (x .urgency) → x .time < 2 ^ 32 → x .serial < 2 ^ 32 → s₁ ≡ putWord s₀ (timeAt j) (x .time)
+    → s₂ ≡ putWord s₁ (serialAt j) (x .serial) → s₃ ≡ putWord s₂ (cellCountAt j) v
     → Stored (cellsAt j) m (cellsOf (x .pairs)) (words s₃) w′ → Written j x (words s₀) w′
 message-written j x m s₀ s₁ s₂ s₃ {v} {w′} long low few all is ht hs e₁ e₂ e₃ cells =
-    let l₁ : length s₁ ≡ length s₀ = ap length e₁ ∙ put-length s₀ (slotAt j) (x .time) in
-    let l₂ : length s₂ ≡ length s₁ = ap length e₂ ∙ put-length s₁ (slotAt j + serialOffset) (x .serial) in
+    let l₁ : length s₁ ≡ length s₀ = ap length e₁ ∙ put-length s₀ (timeAt j) (x .time) in
+    let l₂ : length s₂ ≡ length s₁ = ap length e₂ ∙ put-length s₁ (serialAt j) (x .serial) in
     let l = words-length s₀ in
-    slot-written j x m v (words s₀) w′ (omega arith) few all is
+    slot-written j x m v (words s₀) w′ low (omega arith) few all is
     (rw (
       e₃,
-      put-word s₂ (slotAt j + cellCountOffset) v (omega arith) (omega (arith, level-most (x .urgency))),
+      put-word s₂ (cellCountAt j) v (omega arith) (omega (arith, level-most (x .urgency))),
       e₂,
-      put-word s₁ (slotAt j + serialOffset) (x .serial) (omega arith) hs,
+      put-word s₁ (serialAt j) (x .serial) (omega arith) hs,
       e₁,
-      put-word s₀ (slotAt j) (x .time) (omega arith) ht,
+      put-word s₀ (timeAt j) (x .time) (omega arith) ht,
     ) at cells)
 
 -- ---- a message cancelled
 
 -- in words: the serial, then no cells with the urgency above them
-slot-silenced : (j x v : ℕ) (w : List ℕ) → slotAt j + slotWords ≤ length w → x ≡ slot w j .serial % 1048576 + 1048576 * sizeAt w j
-    → v ≡ cellLimit * gradeIn (slot w j) → Cancelled j w (set (set w (slotAt j + serialOffset) x) (slotAt j + cellCountOffset) v)
+slot-silenced : (j x v : ℕ) (w : List ℕ) → j < slots → length w ≡ stateWords → x ≡ slot w j .serial % 1048576 + 1048576 * sizeAt w j
+    → v ≡ cellLimit * gradeIn (slot w j) → Cancelled j w (set (set w (serialAt j) x) (cellCountAt j) v)
 unfolding slot silenced
-slot-silenced j x v w long is kept = record {
-  keeps = keeps-trans (one w (slotAt j + serialOffset) x (omega arith) (omega arith)) (one w₁ (slotAt j + cellCountOffset) v (omega arith) (omega arith));
+slot-silenced j x v w low long is kept = record {
+  keeps = record {
+    long = length-set w₁ (cellCountAt j) v ∙ length-set w (serialAt j) x;
+    rest = λ i out.
+        getD-set-other w₁ (cellCountAt j) i v 0 (λ e. out (inr e)) ∙ getD-set-other w (serialAt j) i x 0 (λ e. out (inl e));
+  };
   silent = rw (time-is, serial-is, word-is, urgency-is, size-is, is);
 }
   where
     w₁ : List ℕ
-    w₁ = set w (slotAt j + serialOffset) x
+    w₁ = set w (serialAt j) x
 
-    one : (u : List ℕ) (i y : ℕ) → slotAt j + serialOffset ≤ i → i < cellsAt j → Keeps (slotAt j + serialOffset) (cellsAt j) u (set u i y)
-    one u i y l h = keeps-wider l h (keeps-set u i y)
-
-    time-is : getD (set w₁ (slotAt j + cellCountOffset) v) (slotAt j) 0 ≡ getD w (slotAt j) 0
+    time-is : getD (set w₁ (cellCountAt j) v) (timeAt j) 0 ≡ getD w (timeAt j) 0
     time-is =
-        getD-set-other w₁ (slotAt j + cellCountOffset) (slotAt j) v 0 (omega arith)
-        ∙ getD-set-other w (slotAt j + serialOffset) (slotAt j) x 0 (omega arith)
+        getD-set-other w₁ (cellCountAt j) (timeAt j) v 0 (omega arith)
+        ∙ getD-set-other w (serialAt j) (timeAt j) x 0 (omega arith)
 
-    serial-is : getD (set w₁ (slotAt j + cellCountOffset) v) (slotAt j + serialOffset) 0 ≡ x
+    serial-is : getD (set w₁ (cellCountAt j) v) (serialAt j) 0 ≡ x
     serial-is =
-        getD-set-other w₁ (slotAt j + cellCountOffset) (slotAt j + serialOffset) v 0 (omega arith)
-        ∙ getD-set-same w (slotAt j + serialOffset) x 0 (omega arith)
+        getD-set-other w₁ (cellCountAt j) (serialAt j) v 0 (omega arith)
+        ∙ getD-set-same w (serialAt j) x 0 (omega arith)
 
-    word-is : getD (set w₁ (slotAt j + cellCountOffset) v) (slotAt j + cellCountOffset) 0 ≡ v
-    word-is = getD-set-same w₁ (slotAt j + cellCountOffset) v 0 (let l = length-set w (slotAt j + serialOffset) x in omega arith)
+    word-is : getD (set w₁ (cellCountAt j) v) (cellCountAt j) 0 ≡ v
+    word-is = getD-set-same w₁ (cellCountAt j) v 0 (let l = length-set w (serialAt j) x in omega arith)
 
     urgency-is : v / cellLimit ≡ gradeIn (slot w j)
     urgency-is = omega arith
@@ -243,15 +303,15 @@ slot-silenced j x v w long is kept = record {
 
 -- as the words are put one after the other
 pub slot-cancelled : (j : ℕ) (s₀ s₁ s₂ : List ℕ) {x v : ℕ} → length s₀ ≡ stateLength → j < slots → x ≡ slot (words s₀) j .serial % 1048576 + 1048576 * sizeAt (words s₀) j
-    → v ≡ cellLimit * gradeIn (slot (words s₀) j) → s₁ ≡ putWord s₀ (slotAt j + serialOffset) x → s₂ ≡ putWord s₁ (slotAt j + cellCountOffset) v
+    → v ≡ cellLimit * gradeIn (slot (words s₀) j) → s₁ ≡ putWord s₀ (serialAt j) x → s₂ ≡ putWord s₁ (cellCountAt j) v
     → Cancelled j (words s₀) (words s₂)
 slot-cancelled j s₀ s₁ s₂ {x} {v} long low is kept e₁ e₂ =
-    let l₁ : length s₁ ≡ length s₀ = ap length e₁ ∙ put-length s₀ (slotAt j + serialOffset) x in
+    let l₁ : length s₁ ≡ length s₀ = ap length e₁ ∙ put-length s₀ (serialAt j) x in
     let l = words-length s₀ in
-    let few = min-le-right (getD (words s₀) (slotAt j + cellCountOffset) 0 % cellLimit) mostPairs in
+    let few = min-le-right (getD (words s₀) (cellCountAt j) 0 % cellLimit) mostPairs in
     rw (
       e₂,
-      put-word s₁ (slotAt j + cellCountOffset) v (omega arith) (omega arith),
+      put-word s₁ (cellCountAt j) v (omega arith) (omega arith),
       e₁,
-      put-word s₀ (slotAt j + serialOffset) x (omega arith) (omega arith),
-    ) (slot-silenced j x v (words s₀) (omega arith) is kept)
+      put-word s₀ (serialAt j) x (omega arith) (omega arith),
+    ) (slot-silenced j x v (words s₀) low (omega arith) is kept)

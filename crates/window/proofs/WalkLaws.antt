@@ -13,7 +13,7 @@ use Rattle.paper.proofs.SortLaws.{in-right}
 use Rattle.paper.specs.Order.{In}
 use Rattle.paper.specs.Sort.{select}
 use Rattle.paper.specs.Window.{past}
-use Rattle.paper.specs.Layout.{slots, slotAt, cellCountOffset, cellLimit}
+use Rattle.paper.specs.Layout.{slots, cellCountAt, cellLimit}
 use Rattle.window.specs.Slot.{Slot, slot, sizeAt, next, ring, window, live, dropPast, seek, holdsSerial}
 use Rattle.window.proofs.RingLaws.{ring-step, ring-none, ring-cut, ring-last}
 
@@ -116,18 +116,18 @@ counting-start low = record { below = low; most = omega arith; number = omega ar
 
 module _ {w : List ℕ} {first count found j left : ℕ} (c : Counting w first count found j left) where
   module _ (some : 0 < left) {v p : ℕ} (read : v ≡ sizeAt w j) (e : p ≡ next j) where
-    step : live w (ring j left) ≡ cond (ltb 0 (getD w (slotAt j + cellCountOffset) 0 % cellLimit)) (j ∷ live w (ring p (left - 1))) (live w (ring p (left - 1)))
+    step : live w (ring j left) ≡ cond (ltb 0 (getD w (cellCountAt j) 0 % cellLimit)) (j ∷ live w (ring p (left - 1))) (live w (ring p (left - 1)))
     unfolding live select slot
     step = rw (e, ring-step j left some)
 
     pub counting-hit : 0 < v → Counting w first count (found + 1) p (left - 1)
     counting-hit h =
-        let l = ap length (step ∙ ap (λ (b : Bool). cond b (j ∷ live w (ring p (left - 1))) (live w (ring p (left - 1)))) (lt-ltb 0 (getD w (slotAt j + cellCountOffset) 0 % cellLimit) (omega arith))) in
+        let l = ap length (step ∙ ap (λ (b : Bool). cond b (j ∷ live w (ring p (left - 1))) (live w (ring p (left - 1)))) (lt-ltb 0 (getD w (cellCountAt j) 0 % cellLimit) (omega arith))) in
         record { below = omega (arith, c .below); most = omega (arith, c .most); number = omega (arith, c .number) }
 
     pub counting-miss : v ≤ 0 → Counting w first count found p (left - 1)
     counting-miss h =
-        let l = ap length (step ∙ ap (λ (b : Bool). cond b (j ∷ live w (ring p (left - 1))) (live w (ring p (left - 1)))) (le-ltb 0 (getD w (slotAt j + cellCountOffset) 0 % cellLimit) (omega arith))) in
+        let l = ap length (step ∙ ap (λ (b : Bool). cond b (j ∷ live w (ring p (left - 1))) (live w (ring p (left - 1)))) (le-ltb 0 (getD w (cellCountAt j) 0 % cellLimit) (omega arith))) in
         record { below = omega (arith, c .below); most = omega (arith, c .most); number = omega (arith, c .number) }
 
   pub counting-end : left ≤ 0 → (found ≡ length (live w (ring first count))) × (found ≤ count)

@@ -1,12 +1,13 @@
 -- What each function of the window ensures. Assumes nothing.
 use Prim.Native.Nat.{ℕ, suc, _+_, _-_, _%_, _≤_, _<_}
 use mathlib.Core.Path.{_≡_}
+use mathlib.Core.Logic.{_⊎_}
 use mathlib.Core.List.{List}
-use lib.ListN.{getD}
+use lib.ListN.{length, getD}
 use Rattle.paper.specs.Window.{Message}
-use Rattle.paper.specs.Layout.{clockAt, oldestAt, countAt, headerWords, slots, slotWords, slotAt, serialOffset, cellsAt}
+use Rattle.paper.specs.Layout.{clockAt, oldestAt, countAt, headerWords, slots, serialAt, cellCountAt}
 use Rattle.memory.specs.Keeps.{Keeps}
-use Rattle.window.specs.Slot.{slot, stored, silenced, window, dropPast}
+use Rattle.window.specs.Slot.{InSlot, slot, stored, silenced, window, dropPast}
 
 -- what is read of the header: itself where it is in range, and in range whatever memory holds
 pub record Loaded (w : List ℕ) (clock oldest count : ℕ) : Type 0 where
@@ -41,12 +42,17 @@ pub record Roomy (N clock o n clock′ o′ n′ : ℕ) : Type 0 where
   pub room : n < N → n′ ≡ n
   pub full : N ≤ n → 0 < n → n ≡ suc n′
 
+-- no word but some is changed
+pub record KeepsBut (Changed : ℕ → Type 0) (w w′ : List ℕ) : Type 0 where
+  pub long : length w′ ≡ length w
+  pub rest : (i : ℕ) → (Changed i → ⊥) → getD w′ i 0 ≡ getD w i 0
+
 -- a message written into a slot
 pub record Written (j : ℕ) (m : Message) (w w′ : List ℕ) : Type 0 where
-  pub keeps : Keeps (slotAt j) (slotAt j + slotWords) w w′
+  pub keeps : KeepsBut (InSlot j) w w′
   pub holds : slot w′ j ≡ stored m
 
--- a message cancelled in its slot: its cells stand where they stood
+-- a message cancelled in its slot: its time and its cells stand where they stood
 pub record Cancelled (j : ℕ) (w w′ : List ℕ) : Type 0 where
-  pub keeps : Keeps (slotAt j + serialOffset) (cellsAt j) w w′
+  pub keeps : KeepsBut (λ i. (i ≡ serialAt j) ⊎ (i ≡ cellCountAt j)) w w′
   pub silent : slot w′ j ≡ silenced (slot w j)

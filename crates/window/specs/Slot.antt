@@ -1,13 +1,15 @@
 -- What a slot of the ring holds, and the slots that are in the window. `w` is the state memory in words. Assumes nothing.
-use Prim.Native.Nat.{ℕ, zero, suc, _+_, _*_, _/_, _%_, _^_, min}
+use Prim.Native.Nat.{ℕ, zero, suc, _+_, _*_, _/_, _%_, _^_, _≤_, _<_, min}
 use mathlib.Core.Bool.{Bool, false, cond, _||_}
+use mathlib.Core.Path.{_≡_}
+use mathlib.Core.Logic.{_⊎_}
 use mathlib.Core.List.{List, [], _∷_, map}
 use lib.ListN.{length, getD, take, drop}
 use lib.Dec.{eqb, ltb}
 use Rattle.paper.specs.Frame.{level, mostPairs, serialWidth, urgencyWidth}
 use Rattle.paper.specs.Sort.{select}
 use Rattle.paper.specs.Window.{Message, past}
-use Rattle.paper.specs.Layout.{slots, serialOffset, cellCountOffset, cellLimit, slotAt, cellsAt}
+use Rattle.paper.specs.Layout.{slots, cellLimit, timeAt, serialAt, cellCountAt, cellsAt}
 use Rattle.impact.specs.Cell.{cellsOf}
 
 pub record Slot : Type 0 where
@@ -19,18 +21,22 @@ pub record Slot : Type 0 where
 
 -- how many cells a slot has, at most as many as it has room for whatever memory says
 abbrev pub sizeAt : List ℕ → ℕ → ℕ
-sizeAt w j = min (getD w (slotAt j + cellCountOffset) 0 % cellLimit) mostPairs
+sizeAt w j = min (getD w (cellCountAt j) 0 % cellLimit) mostPairs
 
 -- The word with the number of cells has the urgency above it.
 unfoldable pub slot : List ℕ → ℕ → Slot
 slot w j =
     record {
-      time = getD w (slotAt j) 0;
-      serial = getD w (slotAt j + serialOffset) 0;
-      urgency = getD w (slotAt j + cellCountOffset) 0 / cellLimit;
-      size = getD w (slotAt j + cellCountOffset) 0 % cellLimit;
+      time = getD w (timeAt j) 0;
+      serial = getD w (serialAt j) 0;
+      urgency = getD w (cellCountAt j) 0 / cellLimit;
+      size = getD w (cellCountAt j) 0 % cellLimit;
       cells = take (sizeAt w j) (drop (cellsAt j) w);
     }
+
+-- the words of slot j
+abbrev pub InSlot : ℕ → ℕ → Type 0
+InSlot j i = (i ≡ timeAt j) ⊎ ((i ≡ serialAt j) ⊎ ((i ≡ cellCountAt j) ⊎ ((cellsAt j ≤ i) × (i < cellsAt (suc j)))))
 
 -- how urgent a slot's message is, of no more bits than a frame gives an urgency whatever memory says
 abbrev pub gradeIn : Slot → ℕ

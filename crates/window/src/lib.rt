@@ -40,7 +40,7 @@ fn time_in(state: &[u8], j: usize) -> u32
     requires { ⌜ (length (now state) ≡ stateLength) × (j < slots) ⌝ }
     ensures { λ r. ⌜ r ≡ slot (words (now (state .entry))) j .time ⌝ }
 {
-    memory::get(state, layout::RING + layout::SLOT * j)
+    memory::get(state, layout::SLOT_TIMES + j)
 }
 
 // The serial of the message in slot j.
@@ -48,7 +48,7 @@ pub fn serial_in(state: &[u8], j: usize) -> u32
     requires { ⌜ (length (now state) ≡ stateLength) × (j < slots) ⌝ }
     ensures { λ r. ⌜ r ≡ slot (words (now (state .entry))) j .serial ⌝ }
 {
-    memory::get(state, layout::RING + layout::SLOT * j + layout::SERIAL)
+    memory::get(state, layout::SLOT_SERIALS + j)
 }
 
 // The urgency of the message in slot j, which stands above its number of cells.
@@ -56,7 +56,7 @@ pub fn urgency_in(state: &[u8], j: usize) -> u32
     requires { ⌜ (length (now state) ≡ stateLength) × (j < slots) ⌝ }
     ensures { λ r. ⌜ r ≡ gradeIn (slot (words (now (state .entry))) j) ⌝ }
 {
-    let word = memory::get(state, layout::RING + layout::SLOT * j + layout::CELL_COUNT);
+    let word = memory::get(state, layout::CELL_COUNTS + j);
     word / layout::CELL_LIMIT % paper::URGENCY_LIMIT
 }
 
@@ -65,7 +65,7 @@ fn size_in(state: &[u8], j: usize) -> usize
     requires { ⌜ (length (now state) ≡ stateLength) × (j < slots) ⌝ }
     ensures { λ r. ⌜ r ≡ sizeAt (words (now (state .entry))) j ⌝ }
 {
-    let word = memory::get(state, layout::RING + layout::SLOT * j + layout::CELL_COUNT);
+    let word = memory::get(state, layout::CELL_COUNTS + j);
     let size = (word % layout::CELL_LIMIT) as usize;
     if size < MOST_PAIRS { size } else { MOST_PAIRS }
 }
@@ -75,7 +75,7 @@ pub fn impact_in(state: &[u8], j: usize, term: u32) -> u32
     requires { ⌜ (length (now state) ≡ stateLength) × (j < slots) ⌝ }
     ensures { λ r. ⌜ r ≡ lookup term (slot (words (now (state .entry))) j .cells) ⌝ }
 {
-    let cells = layout::RING + layout::SLOT * j + layout::CELLS;
+    let cells = layout::CELLS + MOST_PAIRS * j;
     let size = size_in(state, j);
     let mut i: usize = 0;
     while i < size {
@@ -99,7 +99,7 @@ fn raise_impacts(state: &[u8], j: usize, table: &mut [u16])
     requires { ⌜ (length (now state) ≡ stateLength) × (j < slots) × (length (now table) ≡ termLimit) ⌝ }
     ensures { λ _. ⌜ (length (now (table .exit)) ≡ termLimit) × Raised (slot (words (now (state .entry))) j .cells) (now (table .entry)) (now (table .exit)) ⌝ }
 {
-    let at = layout::RING + layout::SLOT * j + layout::CELLS;
+    let at = layout::CELLS + MOST_PAIRS * j;
     let size = size_in(state, j);
     let mut i: usize = 0;
     while i < size {
@@ -142,7 +142,7 @@ pub fn has_place(state: &[u8], j: usize, places: &[u8]) -> bool
     requires { ⌜ (length (now state) ≡ stateLength) × (j < slots) × (length (now places) ≡ termLimit) ⌝ }
     ensures { λ r. ⌜ r ≡ touches (now (places .entry)) (slot (words (now (state .entry))) j .cells) ⌝ }
 {
-    let cells = layout::RING + layout::SLOT * j + layout::CELLS;
+    let cells = layout::CELLS + MOST_PAIRS * j;
     let size = size_in(state, j);
     let mut sum: u32 = 0;
     let mut i: usize = 0;
@@ -163,7 +163,7 @@ pub fn look_at(state: &[u8], j: usize, places: &[u8], rows: &mut [u16], at: usiz
     requires { ⌜ ((t : ℕ) → getD (now places) t 0 ≤ mostTerms) ⌝ }
     ensures { λ _. ⌜ LookedAt (slot (words (now (state .entry))) j .cells) (now (places .entry)) at (now (rows .entry)) (now (rows .exit)) ⌝ }
 {
-    let base = layout::RING + layout::SLOT * j + layout::CELLS;
+    let base = layout::CELLS + MOST_PAIRS * j;
     let mut i = size_in(state, j);
     while 0 < i {
         i -= 1;
@@ -311,12 +311,15 @@ pub fn cancel(state: &mut [u8], j: usize)
     requires { ⌜ (length (now state) ≡ stateLength) × (j < slots) ⌝ }
     ensures { λ _. ⌜ Cancelled j (words (now (state .entry))) (words (now (state .exit))) ⌝ }
 {
-    let at = layout::RING + layout::SLOT * j;
     let serial = serial_in(state, j) % paper::SERIALS;
     let size = size_in(state, j) as u32;
     let urgency = urgency_in(state, j);
-    memory::put(state, at + layout::SERIAL, serial + paper::SERIALS * size);
-    memory::put(state, at + layout::CELL_COUNT, layout::CELL_LIMIT * urgency);
+    memory::put(
+        state,
+        layout::SLOT_SERIALS + j,
+        serial + paper::SERIALS * size,
+    );
+    memory::put(state, layout::CELL_COUNTS + j, layout::CELL_LIMIT * urgency);
 }
 
 // The message's cells, from word `at` on.
@@ -358,10 +361,9 @@ pub fn put_message(
     requires { ⌜ ((i : ℕ) → i < m → (getD terms i 0 < 2 ^ termWidth) × (getD counts i 0 < 2 ^ countWidth)) ⌝ }
     ensures { λ _. ⌜ Written j (record { time = time; serial = serial; urgency = urgencyOf urgency; pairs = side-by-side m terms counts; cancelled = false }) (words (now (state .entry))) (words (now (state .exit))) ⌝ }
 {
-    let at = layout::RING + layout::SLOT * j;
-    memory::put(state, at, time);
-    memory::put(state, at + layout::SERIAL, serial);
+    memory::put(state, layout::SLOT_TIMES + j, time);
+    memory::put(state, layout::SLOT_SERIALS + j, serial);
     let word = m as u32 + layout::CELL_LIMIT * urgency;
-    memory::put(state, at + layout::CELL_COUNT, word);
-    put_cells(state, at + layout::CELLS, m, terms, counts);
+    memory::put(state, layout::CELL_COUNTS + j, word);
+    put_cells(state, layout::CELLS + MOST_PAIRS * j, m, terms, counts);
 }

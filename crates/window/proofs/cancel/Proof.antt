@@ -23,8 +23,6 @@ pub cancel-spec : {M : Type 1} → statement M
 cancel-spec =
     tie.close
     (tie.spec
-    (λ c. search needs)
-    (λ c. search needs)
     (λ c κs. search needs)
     (λ c κs. search needs)
     (λ c. search needs)

@@ -64,7 +64,6 @@ has-place-spec =
     μ-loop
     (λ c. search needs)
     (λ c. search needs)
-    (λ c. search needs)
     (λ c κs. search needs)
     loop-holds
     (λ c. search needs)

@@ -68,7 +68,6 @@ look-at-spec =
     μ-loop
     (λ c. search needs)
     (λ c. search needs)
-    (λ c. search needs)
     (λ c κs. search needs)
     loop-holds
     (λ c. search needs)

@@ -47,7 +47,6 @@ raise-impacts-spec =
     μ-loop
     (λ c. search needs)
     (λ c. search needs)
-    (λ c. search needs)
     (λ c κs. search needs)
     (λ c. (omega arith, omega arith, raising-none))
     (λ c. search needs)

@@ -9,4 +9,4 @@ unfolding slot
 returns c = search needs
 
 pub serial-in-spec : {M : Type 1} → statement M
-serial-in-spec = tie.close (tie.spec (λ c. search needs) (λ c. search needs) (λ c. search needs) (λ c κs. search needs) returns)
+serial-in-spec = tie.close (tie.spec (λ c. search needs) (λ c κs. search needs) returns)

@@ -9,4 +9,4 @@ unfolding slot
 returns c = search needs
 
 pub time-in-spec : {M : Type 1} → statement M
-time-in-spec = tie.close (tie.spec (λ c. search needs) (λ c. search needs) (λ c κs. search needs) returns)
+time-in-spec = tie.close (tie.spec (λ c. search needs) (λ c κs. search needs) returns)

@@ -10,4 +10,4 @@ unfolding slot
 returns c = omega (arith, c .get .ensures)
 
 pub urgency-in-spec : {M : Type 1} → statement M
-urgency-in-spec = tie.close (tie.spec (λ c. search needs) (λ c. search needs) (λ c. search needs) (λ c κs. search needs) returns)
+urgency-in-spec = tie.close (tie.spec (λ c. search needs) (λ c κs. search needs) returns)
