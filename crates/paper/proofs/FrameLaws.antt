@@ -3,7 +3,7 @@
 -- Assumes nothing.
 use mathlib.Core.Path.{_≡_, refl, sym, ap, ap₂, _∙_, subst}
 use Prim.Native.Nat.{ℕ, zero, suc, _+_, _-_, _*_, _^_, _≤_, _<_}
-use native.Mathlib.Nat.{zero-add, add-sub-cancel, add-assoc, zero-mul, suc-mul}
+use native.Mathlib.Nat.{lt-of-lt-of-le, zero-add, add-sub-cancel, add-assoc, zero-mul, suc-mul}
 use native.Mathlib.Omega.{arith}
 use mathlib.Core.Bool.{Bool, true, false, cond, _&&_}
 use mathlib.Core.Logic.{_⊎_, inl, inr}
@@ -234,11 +234,11 @@ unfolding shapeOfKind
 unknown-shape s k e = rw e
 
 -- a form of messages with an urgency, written with the number of pairs in a field of w bits
-abbrev Written : ℕ → ℕ → (Urgency → Form) → Type 0
-Written k w form =
+abbrev Spelled : ℕ → ℕ → (Urgency → Form) → Type 0
+Spelled k w form =
     (t n : ℕ) (u : Urgency) (ps : List Pair) → encode (message t n (form u) ps) ≡ writtenBy (gradedBy w) (k ∷ t ∷ n ∷ level u ∷ (length ps - 1) ∷ []) ps
 
-graded-sound : (s : List ℕ) (k w : ℕ) (form : Urgency → Form) → ((u : Urgency) → mostIn (form u) ≡ 2 ^ w) → Written k w form → field s 0 4 ≡ k
+graded-sound : (s : List ℕ) (k w : ℕ) (form : Urgency → Form) → ((u : Urgency) → 2 ^ w ≤ mostIn (form u)) → Spelled k w form → field s 0 4 ≡ k
     → Sound s (check s (widths (gradedBy w)) countWidth (field s 58 w + 1) (leb (field s 56 2) 2 && true)
     (λ ps. accepted (message (field s 4 32) (field s 36 20) (form (urgencyOf (field s 56 2))) ps)))
 unfolding scan total
@@ -247,7 +247,7 @@ graded-sound s k w form most is e =
     let u : Urgency = urgencyOf (field s 56 2) in
     check-sound s (widths (gradedBy w)) countWidth (field s 58 w + 1) (leb (field s 56 2) 2 && true)
     (message (field s 4 32) (field s 36 20) (form u))
-    (λ p o. record { time = field-lt s 4 32; serial = field-lt s 36 20; pairs = pairs-valid s at countWidth (field s 58 w) (mostIn (form u)) (rw (most u) (field-lt s 58 w)) p o })
+    (λ p o. record { time = field-lt s 4 32; serial = field-lt s 36 20; pairs = pairs-valid s at countWidth (field s 58 w) (mostIn (form u)) (lt-of-lt-of-le (field-lt s 58 w) (most u)) p o })
     (λ known. rw (is _ _ _ _, e, less-one s at countWidth (field s 58 w), level-of (field s 56 2) (leb-true (field s 56 2) 2 (and-true (leb (field s 56 2) 2) true known .0))))
 
 kind-sound : (s : List ℕ) (k : ℕ) → field s 0 4 ≡ k → Sound s (shapeOfKind k s)
@@ -269,8 +269,8 @@ kind-sound s =
     (λ _. rw (e, less-one s 48 weightWidth (field s 45 3), add-sub-cancel (field s 41 4) 1)))
     (λ e. check-sound s (widths unregisterRow) 0 0 true (λ _. unregister (field s 4 32) (field s 36 5)) (λ _ _. (field-lt s 4 32, field-lt s 36 5)) (λ _. rw e))
     (λ e. check-sound s (widths cancelRow) 0 0 true (λ _. cancel (field s 4 32) (field s 36 20)) (λ _ _. (field-lt s 4 32, field-lt s 36 20)) (λ _. rw e))
-    (graded-sound s 6 pairsWidth graded (λ _. refl) (λ t n u ps. refl))
-    (graded-sound s 7 longPairsWidth long (λ _. refl) (λ t n u ps. refl))
+    (graded-sound s 6 pairsWidth graded (λ _. lit≤ tt) (λ t n u ps. refl))
+    (graded-sound s 7 longPairsWidth long (λ _. lit≤ tt) (λ t n u ps. refl))
     (λ k none e. rw (unknown-shape s k none) (inl (lit≤ tt, lit≤ tt)))
 
 shape-sound : (s : List ℕ) → Sound s (shape s)

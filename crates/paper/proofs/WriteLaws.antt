@@ -2,7 +2,7 @@
 -- Assumes nothing.
 use mathlib.Core.Path.{_≡_, refl, sym, ap, subst}
 use Prim.Native.Nat.{ℕ, zero, suc, _+_, _-_, _^_, _≤_, _<_}
-use native.Mathlib.Nat.{not-suc-le-zero, add-sub-cancel}
+use native.Mathlib.Nat.{le-trans, not-suc-le-zero, add-sub-cancel}
 use native.Mathlib.Omega.{arith}
 use mathlib.Core.Bool.{Bool, true, false, _&&_}
 use mathlib.Core.Logic.{_⊎_, inl, inr}
@@ -81,7 +81,7 @@ unfolding fromKind
 unknown-kind x k e = rw e
 
 -- a message with an urgency, its number of pairs in a field of w bits
-graded-sound : (x : Fields) (w : ℕ) (form : Urgency → Form) → ((u : Urgency) → mostIn (form u) ≡ 2 ^ w) → let row = gradedBy w in
+graded-sound : (x : Fields) (w : ℕ) (form : Urgency → Form) → ((u : Urgency) → 2 ^ w ≤ mostIn (form u)) → let row = gradedBy w in
     let ps = pairsOf row x in
     Judged 2 Valid (judged (gradesKnown (row .head) (map (valueOf x) (row .head))) (headWithin (row .head) x && pairsWithin row x) ps
     (accepted (message (x .time) (x .serial) (form (urgencyOf (x .urgency))) ps)))
@@ -93,7 +93,9 @@ graded-sound x w form most =
     (message (x .time) (x .serial) (form u) (pairsOf row x)) (λ e o. record {
       time = search facts;
       serial = search facts;
-      pairs = rw (most u) (pairs-within countWidth (2 ^ w) (x .pairs) (x .terms) (x .amounts) (search facts) (search facts) (search facts) (search facts) (search facts) o);
+      pairs =
+          let few : x .pairs ≤ 2 ^ w = search facts in
+          pairs-within countWidth (mostIn (form u)) (x .pairs) (x .terms) (x .amounts) (search facts) (le-trans few (most u)) (search facts) (search facts) (search facts) o;
     })
 
 kind-sound : (x : Fields) (k : ℕ) → Judged 2 Valid (fromKind k x)
@@ -122,8 +124,8 @@ kind-sound x =
     }))
     (judged-sound true (headWithin (unregisterRow .head) x && pairsWithin unregisterRow x) (side-by-side 0 ts us) (unregister (x .time) (x .number)) (λ e _. (search facts, search facts)))
     (judged-sound true (headWithin (cancelRow .head) x && pairsWithin cancelRow x) (side-by-side 0 ts us) (cancel (x .time) (x .serial)) (λ e _. (search facts, search facts)))
-    (graded-sound x pairsWidth graded (λ _. refl))
-    (graded-sound x longPairsWidth long (λ _. refl))
+    (graded-sound x pairsWidth graded (λ _. lit≤ tt))
+    (graded-sound x longPairsWidth long (λ _. lit≤ tt))
     (λ k none. rw (unknown-kind x k none) (inl (lit≤ tt, lit≤ tt)))
 
 fields-sound : (x : Fields) → Judged 2 Valid (fromFields x)
