@@ -20,7 +20,7 @@ message-requires c κs =
     let bytes = opened .before .args .bytes .now in
     let read = parsed .read in
     let m = read-message bytes (read .result) (read .ensures) _ _ _ _ _ (arm .what .given .1) in
-    ((search needs, m .1 .0), ((m .0 .least, m .0 .most), m .0 .fit))
+    ((search needs, omega (arith, m .1 .0)), ((m .0 .least, m .0 .most), m .0 .fit))
 
 register-requires : tie.Need-register-requires
 register-requires c κs =
