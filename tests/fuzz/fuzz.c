@@ -44,7 +44,7 @@ struct lent {
     size_t length;
 };
 
-static struct lent state = {11, NULL, NULL, 0};
+static struct lent state = {FENNELRAKE_STATE_SIZE / PAGE + 1, NULL, NULL, 0};
 static struct lent frame = {1, NULL, NULL, 0};
 static struct lent answer = {1, NULL, NULL, 0};
 static struct lent terms = {1, NULL, NULL, 0};
@@ -165,8 +165,9 @@ static uint32_t search(const uint8_t *bytes, size_t length, size_t room)
 
 /* ---- what the state memory keeps (docs/STATE.md) */
 
-enum { CLOCK = 2, OLDEST = 3, COUNT = 4, SLOTS = 5, SLOT = 35, PLACES = 257, RECORDS = 9000, RECORD = 60 };
-enum { TIME = 0, SERIAL = 1, CELLS = 2, CELL = 3 };
+enum { CLOCK = 2, OLDEST = 3, COUNT = 4, HEADER = 5, SLOTS = FENNELRAKE_MOST_MESSAGES + 1 };
+enum { TIME = 0, SERIAL = 1, CELLS = 2, CELL = 3, SLOT = CELL + FENNELRAKE_MOST_PAIRS };
+enum { RECORDS = HEADER + SLOTS * SLOT, RECORD = 60 };
 enum { K = 0, N = 1, TERM = 2, ENTRIES = 10, THRESHOLD = 11, LISTED = 19, KEY = 35, CANDIDATES = 51 };
 
 static uint8_t old[FENNELRAKE_STATE_SIZE]; /* the state before the frame */
@@ -177,32 +178,45 @@ static uint32_t word(const uint8_t *bytes, size_t i)
     return b[0] | (uint32_t)b[1] << 8 | (uint32_t)b[2] << 16 | (uint32_t)b[3] << 24;
 }
 
-static const uint8_t *slot(const uint8_t *s, uint32_t j)
+/* Where word i of a slot stands: each of those before the cells in a column of its own, and then the cells of every slot. */
+static uint32_t slot_at(uint32_t j, uint32_t i)
 {
-    return s + 4 * (SLOTS + SLOT * (j % PLACES));
+    return i < CELL ? HEADER + SLOTS * i + j : HEADER + SLOTS * CELL + (SLOT - CELL) * j + i - CELL;
+}
+
+/* A message by the slot that it stands in. */
+struct message {
+    const uint8_t *state;
+    uint32_t slot;
+};
+
+static uint32_t part(struct message m, uint32_t i)
+{
+    return word(m.state, slot_at(m.slot, i));
 }
 
 /* Message i of those that fill a place, the oldest being message 0. */
-static const uint8_t *message(const uint8_t *s, uint32_t i)
+static struct message message(const uint8_t *s, uint32_t i)
 {
-    return slot(s, word(s, OLDEST) + i);
+    struct message m = {s, (word(s, OLDEST) + i) % SLOTS};
+    return m;
 }
 
 /* A message's number of cells, and its urgency, which stands above it. */
-static uint32_t cells(const uint8_t *m)
+static uint32_t cells(struct message m)
 {
-    return word(m, CELLS) % 64;
+    return part(m, CELLS) % 64;
 }
 
-static uint32_t grade(const uint8_t *m)
+static uint32_t grade(struct message m)
 {
-    return word(m, CELLS) / 64;
+    return part(m, CELLS) / 64;
 }
 
 /* A cancelled message has no cells, and a serial that no frame can say. */
-static int cancelled(const uint8_t *m)
+static int cancelled(struct message m)
 {
-    return cells(m) == 0 && word(m, SERIAL) >= FENNELRAKE_SERIALS;
+    return cells(m) == 0 && part(m, SERIAL) >= FENNELRAKE_SERIALS;
 }
 
 static const uint8_t *record(const uint8_t *s, uint32_t q)
@@ -210,16 +224,27 @@ static const uint8_t *record(const uint8_t *s, uint32_t q)
     return s + 4 * (RECORDS + RECORD * q);
 }
 
-static uint32_t impact(const uint8_t *m, uint32_t term)
+/* Term and impact of a cell; its count stands between them. */
+static uint32_t term_in(struct message m, uint32_t i)
+{
+    return part(m, CELL + i) >> 22;
+}
+
+static uint32_t impact_in(struct message m, uint32_t i)
+{
+    return part(m, CELL + i) & 16383;
+}
+
+static uint32_t impact(struct message m, uint32_t term)
 {
     uint32_t i;
     for (i = 0; i < cells(m); i++)
-        if (word(m, CELL + i) >> 22 == term)
-            return word(m, CELL + i) & 16383;
+        if (term_in(m, i) == term)
+            return impact_in(m, i);
     return 0;
 }
 
-static uint32_t score(const uint8_t *m, const uint8_t *r)
+static uint32_t score(struct message m, const uint8_t *r)
 {
     uint32_t i, sum = 0;
     for (i = 0; i < word(r, N); i++)
@@ -228,12 +253,12 @@ static uint32_t score(const uint8_t *m, const uint8_t *r)
 }
 
 /* What a list is ordered by, before the order of acceptance: the score, and among equal ones the urgency. A record keeps it of each entry. */
-static uint32_t key(const uint8_t *m, const uint8_t *r)
+static uint32_t key(struct message m, const uint8_t *r)
 {
     return 4 * score(m, r) + grade(m);
 }
 
-static int exceeds(const uint8_t *m, const uint8_t *r)
+static int exceeds(struct message m, const uint8_t *r)
 {
     uint32_t i;
     for (i = 0; i < word(r, N); i++)
@@ -293,7 +318,7 @@ static uint32_t pairs_of(const uint8_t *f)
 static uint32_t past(const uint8_t *f)
 {
     uint32_t n = 0;
-    while (n < word(old, COUNT) && bits(f, 4, 32) - word(message(old, n), TIME) > word(old, 1))
+    while (n < word(old, COUNT) && bits(f, 4, 32) - part(message(old, n), TIME) > word(old, 1))
         n++;
     return n;
 }
@@ -302,7 +327,7 @@ static uint32_t past(const uint8_t *f)
 static uint32_t holder(const uint8_t *f)
 {
     uint32_t i = past(f);
-    while (i < word(old, COUNT) && word(message(old, i), SERIAL) != bits(f, 36, 20))
+    while (i < word(old, COUNT) && part(message(old, i), SERIAL) != bits(f, 36, 20))
         i++;
     return i;
 }
@@ -315,7 +340,7 @@ static uint32_t check_window(const uint8_t *s, const uint8_t *f, uint32_t depart
 
     HOLD(word(s, 0) == word(old, 0) && word(s, 1) == word(old, 1));
     HOLD(time >= word(old, CLOCK) && word(s, CLOCK) == time);
-    HOLD(word(s, OLDEST) < PLACES && count <= word(s, 0));
+    HOLD(word(s, OLDEST) < SLOTS && count <= word(s, 0));
     left = past(f);
     left += arrived && held - left == word(s, 0);
     HOLD(count == held - left + arrived);
@@ -327,28 +352,27 @@ static uint32_t check_window(const uint8_t *s, const uint8_t *f, uint32_t depart
         in_force += !cancelled(message(old, i));
     HOLD(departures == in_force + (off < held));
     for (i = left; i < held; i++) {
-        const uint8_t *m = message(s, i - left), *was = message(old, i);
+        struct message m = message(s, i - left), was = message(old, i);
         if (i == off) {
-            HOLD(word(m, TIME) == word(was, TIME) && word(m, SERIAL) == word(was, SERIAL) + FENNELRAKE_SERIALS * cells(was));
+            HOLD(part(m, SERIAL) == part(was, SERIAL) + FENNELRAKE_SERIALS * cells(was));
             HOLD(cancelled(m) && grade(m) == grade(was));
-            HOLD(memcmp(m + 4 * CELL, was + 4 * CELL, 4 * (SLOT - CELL)) == 0);
-        } else {
-            HOLD(memcmp(m, was, 4 * SLOT) == 0);
         }
+        for (j = 0; j < SLOT; j++)
+            HOLD(part(m, j) == part(was, j) || (i == off && (j == SERIAL || j == CELLS)));
     }
     for (i = 0; i < count; i++)
         for (j = 0; j < i; j++)
-            HOLD(cancelled(message(s, i)) || word(message(s, i), SERIAL) != word(message(s, j), SERIAL));
+            HOLD(cancelled(message(s, i)) || part(message(s, i), SERIAL) != part(message(s, j), SERIAL));
     if (arrived) {
-        const uint8_t *m = message(s, count - 1);
+        struct message m = message(s, count - 1);
         uint32_t first = pairs_at(kind);
         uint64_t n = 0, top, w;
-        HOLD(word(m, TIME) == time && word(m, SERIAL) == bits(f, 36, 20) && cells(m) == pairs_of(f) && grade(m) == bits(f, 56, size_at(kind) - 56));
+        HOLD(part(m, TIME) == time && part(m, SERIAL) == bits(f, 36, 20) && cells(m) == pairs_of(f) && grade(m) == bits(f, 56, size_at(kind) - 56));
         for (i = 0; i < cells(m); i++)
             n += (uint64_t)bits(f, first + 18 * i + 10, 8) * bits(f, first + 18 * i + 10, 8);
         for (i = 0; i < cells(m); i++) {
-            HOLD(word(m, CELL + i) >> 14 == bits(f, first + 18 * i, 18));
-            w = word(m, CELL + i) & 16383;
+            HOLD(part(m, CELL + i) >> 14 == bits(f, first + 18 * i, 18));
+            w = impact_in(m, i);
             top = (uint64_t)FENNELRAKE_TOP_IMPACT * bits(f, first + 18 * i + 10, 8);
             HOLD(w > 0 && w * w * n <= top * top && (w + 1) * (w + 1) * n > top * top);
         }
@@ -394,7 +418,7 @@ static uint32_t check_ranking(const uint8_t *s, const uint8_t *r)
             HOLD(serial == 0 && fennelrake_list_score(answer.bytes, i) == 0);
             continue;
         }
-        for (j = 0; j < count && word(message(s, j), SERIAL) != serial;)
+        for (j = 0; j < count && part(message(s, j), SERIAL) != serial;)
             j++;
         HOLD(j < count && score(message(s, j), r) > 0 && fennelrake_list_score(answer.bytes, i) == score(message(s, j), r));
         value = key(message(s, j), r);
@@ -406,7 +430,7 @@ static uint32_t check_ranking(const uint8_t *s, const uint8_t *r)
     for (j = 0; j < count; j++) {
         uint32_t scores = score(message(s, j), r) > 0, value = key(message(s, j), r), behind = value < last || (value == last && j < last_at);
         positive += scores;
-        for (i = 0; i < entries && word(message(s, j), SERIAL) != fennelrake_list_serial(answer.bytes, i);)
+        for (i = 0; i < entries && part(message(s, j), SERIAL) != fennelrake_list_serial(answer.bytes, i);)
             i++;
         HOLD(!scores || i < entries || (entries == word(r, K) && behind));
     }
@@ -430,7 +454,7 @@ static void check_list(const uint8_t *s, uint32_t q)
     HOLD(check_ranking(s, r) == word(r, ENTRIES));
     for (i = 0; i < FENNELRAKE_LIST_PLACES; i++) {
         HOLD(fennelrake_list_serial(answer.bytes, i) == word(r, LISTED + i) && fennelrake_list_score(answer.bytes, i) == word(r, KEY + i) / 4);
-        for (j = 0; j < word(s, COUNT) && word(message(s, j), SERIAL) != word(r, LISTED + i);)
+        for (j = 0; j < word(s, COUNT) && part(message(s, j), SERIAL) != word(r, LISTED + i);)
             j++;
         HOLD(word(r, KEY + i) == (i < word(r, ENTRIES) ? key(message(s, j), r) : 0));
     }
@@ -441,7 +465,6 @@ static void check_thresholds(const uint8_t *s, uint32_t q)
 {
     const uint8_t *r = record(s, q);
     uint32_t n = word(r, N), entries = word(r, ENTRIES), sum = 0, i, j;
-    uint8_t filled[PLACES] = {0};
 
     if (word(r, K) == 0)
         return;
@@ -456,11 +479,10 @@ static void check_thresholds(const uint8_t *s, uint32_t q)
             HOLD(h == FENNELRAKE_TOP_IMPACT || sum + word(r, TERM + i) % 16 >= last);
         }
     }
-    for (i = 0; i < word(s, COUNT); i++)
-        filled[(word(s, OLDEST) + i) % PLACES] = 1;
     for (j = 0; j < 32 * (RECORD - CANDIDATES); j++) {
         uint32_t set = word(r, CANDIDATES + j / 32) >> (31 - j % 32) & 1;
-        HOLD(set == (uint32_t)(j < PLACES && filled[j] && exceeds(slot(s, j), r)));
+        i = (j + SLOTS - word(s, OLDEST)) % SLOTS;
+        HOLD(set == (uint32_t)(j < SLOTS && i < word(s, COUNT) && exceeds(message(s, i), r)));
     }
 }
 
@@ -474,7 +496,7 @@ static void check_postings(const uint8_t *s, uint32_t term)
     HOLD(postings(term, FENNELRAKE_POSTING_SIZE * there) == there);
     for (i = 0; i < there; i++) {
         uint32_t value = fennelrake_posting_impact(answer.bytes, i);
-        for (j = 0; j < count && word(message(s, j), SERIAL) != fennelrake_posting_serial(answer.bytes, i);)
+        for (j = 0; j < count && part(message(s, j), SERIAL) != fennelrake_posting_serial(answer.bytes, i);)
             j++;
         HOLD(j < count && value > 0 && value == impact(message(s, j), term));
         HOLD(i == 0 || value < last || (value == last && j < last_at));
@@ -725,7 +747,7 @@ static uint32_t checked_frame(const uint8_t *f, size_t length)
         if (word(record(now, q), K) != 0)
             seen(1, word(record(now, q), ENTRIES) * 32 + (marks >> q & 1) * 16 + word(record(now, q), K) - 1);
     }
-    check_postings(now, word(now, COUNT) > 0 ? word(message(now, (uint32_t)ordinal % word(now, COUNT)), CELL) >> 22 : (uint32_t)ordinal % 1024);
+    check_postings(now, word(now, COUNT) > 0 ? term_in(message(now, (uint32_t)ordinal % word(now, COUNT)), 0) : (uint32_t)ordinal % 1024);
     check_searches(now, f, length, UINT32_MAX);
     check_writer(f, length);
     HOLD(list(beyond, FENNELRAKE_LIST_ANSWER_SIZE - 1) == FENNELRAKE_REFUSED_MEMORY && all_of(answer.bytes, answer.length, FRESH));
@@ -800,9 +822,9 @@ static void damage(int steering, const uint8_t *how)
     uint32_t i = (how[0] * 256u + how[1]) % (FENNELRAKE_STATE_SIZE / 4), value = values[how[2] % (sizeof values / sizeof values[0])];
 
     if (steering && how[0] < 64)
-        i = how[0] % 5u;
+        i = how[0] % HEADER;
     else if (steering && how[0] < 160)
-        i = SLOTS + SLOT * (how[1] % 257u) + how[0] % 4u;
+        i = slot_at(how[1], how[0] % (CELL + 1u));
     else if (steering)
         i = RECORDS + RECORD * (how[1] % 32u) + how[0] % 20u;
     put_word(state.bytes, i, value);
@@ -813,7 +835,7 @@ static uint32_t search_there(uint32_t k)
 {
     static const uint8_t weights[] = {3, 1};
     uint8_t both[4] = {0}, bytes[FENNELRAKE_LONGEST_FRAME] = {0};
-    uint32_t term = word(slot(state.bytes, word(state.bytes, OLDEST) % PLACES), CELL) >> 22, pairs = term < FENNELRAKE_TERMS - 1 ? 2 : 1, entries;
+    uint32_t term = term_in(message(state.bytes, 0), 0), pairs = term < FENNELRAKE_TERMS - 1 ? 2 : 1, entries;
     uint64_t written;
 
     fennelrake_put_term(both, 0, (uint16_t)term);
@@ -860,7 +882,7 @@ static void foreign_run(const uint8_t *data, size_t size)
             length = size;
         seen(4, hand(data, length, FENNELRAKE_FRAME_ANSWER_SIZE));
         seen(5, list((uint32_t)ordinal % 33, FENNELRAKE_LIST_ANSWER_SIZE));
-        seen(6, (uint32_t)(postings(word(slot(state.bytes, word(state.bytes, OLDEST) % PLACES), CELL) >> 22, FENNELRAKE_POSTINGS_SIZE) >> 32));
+        seen(6, (uint32_t)(postings(term_in(message(state.bytes, 0), 0), FENNELRAKE_POSTINGS_SIZE) >> 32));
         seen(7, (uint32_t)(postings((uint32_t)ordinal, ordinal % 64) >> 32));
         seen(14, search(data, length, FENNELRAKE_SEARCH_ANSWER_SIZE));
         seen(15, search_there(1 + (uint32_t)ordinal % FENNELRAKE_LIST_PLACES));

@@ -1,5 +1,7 @@
 //! The C entries behind safe calls. Every lent slice lies between guard bytes, which each call must leave alone.
 
+use crate::random::Random;
+
 pub const STATE: usize = 43680;
 /// A message of 32 pairs.
 pub const LONGEST_FRAME: usize = 80;
@@ -269,19 +271,29 @@ pub fn write_over(f: &Fields, held: &[u8]) -> Result<Vec<u8>, u32> {
 
 // ---- what the state memory keeps (docs/STATE.md)
 
+/// The words of the header.
+pub const HEADER: usize = 5;
+
 /// How many slots the ring has, and a slot's words: those before its cells, and its cells.
 const SLOTS: usize = 257;
 const HEAD: usize = 3;
 const CELLS: usize = 32;
+pub const SLOT: usize = HEAD + CELLS;
 
-/// The word at which a slot starts, behind the header.
-pub fn slot_at(j: usize) -> usize {
-    5 + (HEAD + CELLS) * j
+/// Where word i of a slot stands, behind the header: each of those before the cells in a column of its own, and then the cells of every slot.
+fn slot_at(j: usize, i: usize) -> usize {
+    let column = HEADER + SLOTS * i.min(HEAD);
+    column + if i < HEAD { j } else { CELLS * j + i - HEAD }
+}
+
+/// Where one of the first so many words of any slot stands.
+pub fn any_in_slot(r: &mut Random, words: usize) -> usize {
+    slot_at(r.below(SLOTS as u64) as usize, r.below(words as u64) as usize)
 }
 
 /// The word at which a query's record starts, behind the slots.
 pub fn record_at(q: usize) -> usize {
-    slot_at(SLOTS) + 60 * q
+    HEADER + SLOTS * SLOT + 60 * q
 }
 
 /// A word of the state memory.
@@ -289,9 +301,9 @@ pub fn state_word(bytes: &[u8], i: usize) -> u32 {
     u32::from_le_bytes(bytes[4 * i..4 * i + 4].try_into().unwrap())
 }
 
-/// The term of a cell, whose other bits are 8 of its count and 14 of its impact.
-pub fn term_at(state: &[u8], slot: usize, cell: usize) -> u32 {
-    state_word(state, slot_at(slot) + HEAD + cell) >> 22
+/// The term of any cell of the ring, whose other bits are 8 of its count and 14 of its impact.
+pub fn any_term(state: &[u8], r: &mut Random) -> u32 {
+    state_word(state, slot_at(r.below(SLOTS as u64) as usize, HEAD + r.below(CELLS as u64) as usize)) >> 22
 }
 
 pub struct Slot {
@@ -305,7 +317,7 @@ pub struct Slot {
 pub fn window(state: &[u8]) -> Vec<Slot> {
     let (oldest, count) = (state_word(state, 3) as usize, state_word(state, 4) as usize);
     let slot = |at: usize| {
-        let word = |i: usize| state_word(state, slot_at(at) + i);
+        let word = |i: usize| state_word(state, slot_at(at, i));
         Slot { at, head: std::array::from_fn(word), cells: std::array::from_fn(|i| word(HEAD + i)) }
     };
     (0..count).map(|i| slot((oldest + i) % SLOTS)).collect()

@@ -387,7 +387,7 @@ fn foreign_memory() {
             let (n, term) = (r.pick(4, 64, 2049) as usize, r.pick(8, 1 << 32, 1024) as u32);
             engine::raw::postings(&mut state, term, &mut Lent::new(&r.bytes(n)));
             // the term of a cell as it stands there, so that there are postings
-            let term = engine::term_at(state.bytes(), r.below(257) as usize, r.below(32) as usize);
+            let term = engine::any_term(state.bytes(), &mut r);
             engine::raw::postings(&mut state, term, &mut Lent::new(&r.bytes(n)));
         }
         // a start takes nothing from what the memory held
@@ -431,11 +431,11 @@ fn foreign(r: &mut Random, round: usize) -> Vec<u8> {
             bytes[i] = r.next() as u8;
         }
     } else {
-        // the five words at the start, and the first ones of slots and records, steer every loop
+        // the words of the header, and the first ones of slots and records, steer every loop
         for _ in 0..1 + r.below(20) {
             let i = match r.below(3) {
-                0 => r.below(5) as usize,
-                1 => engine::slot_at(r.below(257) as usize) + r.below(4) as usize,
+                0 => r.below(engine::HEADER as u64) as usize,
+                1 => engine::any_in_slot(r, 4),
                 _ => engine::record_at(r.below(32) as usize) + r.below(20) as usize,
             };
             // the serial word of a cancelled message, too: 1, 32 and 33 times 2 to the 20; and sizes beside an urgency of 1 to 3

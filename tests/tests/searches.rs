@@ -541,7 +541,7 @@ fn foreign_memory() {
         };
         // of the words that steer a search: N, oldest and count, and serial, size and cells of slots
         for _ in 0..r.below(40) {
-            let i = if r.one_in(2) { r.below(5) as usize } else { engine::slot_at(r.below(257) as usize) + r.below(35) as usize };
+            let i = if r.one_in(2) { r.below(engine::HEADER as u64) as usize } else { engine::any_in_slot(&mut r, engine::SLOT) };
             let words = [0, 1, 2, 16, 17, 32, 33, 64, 96, 161, 225, 255, 256, 257, 258, 1 << 20, 33 << 20, 1 << 31, u32::MAX, r.next() as u32];
             let word = words[r.below(words.len() as u64) as usize];
             bytes[4 * i..4 * i + 4].copy_from_slice(&u32::to_le_bytes(word));
@@ -549,7 +549,7 @@ fn foreign_memory() {
         let state = Lent::new(&bytes);
         for _ in 0..20 {
             // the terms of two cells as they stand there, so that there are postings
-            let mut term = || engine::term_at(&bytes, r.below(257) as usize, r.below(32) as usize);
+            let mut term = || engine::any_term(&bytes, &mut r);
             let (one, other) = (term(), term());
             let mut terms: Vec<(u32, u32)> = [one, other, 5, 9].map(|t| (t, 1 + t % 15)).to_vec();
             terms.sort_unstable();
