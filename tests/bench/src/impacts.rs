@@ -10,7 +10,7 @@ const MESSAGES: usize = 512;
 const ROUNDS: usize = 400;
 
 /// The parts of a place, and those of the whole scale.
-const FINE: u64 = 5040;
+const FINE: u64 = 720_720;
 const REACH: u64 = FINE * TOP as u64;
 
 static SQUARES: [u32; TOP as usize + 1] = {
@@ -58,20 +58,26 @@ fn halving(f: u32, n: u32) -> u32 {
 }
 
 /// The impact of a count of 1, in fine parts.
-fn unit(n: u32) -> u32 {
+fn unit(n: u32) -> u64 {
     let most = REACH * REACH / n as u64;
     let closer = |guess: u64| ((guess + most / guess) / 2).min(REACH);
     let mut guess = closer(closer(closer(closer(REACH >> ((32 - n.leading_zeros()) / 2)))));
     while most < guess * guess {
         guess = closer(guess);
     }
-    guess as u32
+    guess
+}
+
+/// The least and the greatest place that the unit leaves for a count.
+#[inline(always)]
+fn places(f: u32, unit: u64) -> (u32, u32) {
+    let place_of = |parts: u64| (parts / FINE).min(TOP as u64) as u32;
+    (place_of(f as u64 * unit), place_of(f as u64 * (unit + 1)))
 }
 
 #[inline(always)]
-fn by_unit(f: u32, n: u32, unit: u32) -> u32 {
-    let parts = f * unit;
-    let (low, high) = ((parts / FINE as u32).min(TOP), ((parts + f) / FINE as u32).min(TOP));
+fn by_unit(f: u32, n: u32, unit: u64) -> u32 {
+    let (low, high) = places(f, unit);
     if low < high {
         return place(low, high, most_square(f, n));
     }
@@ -137,7 +143,7 @@ pub fn print() {
         let ratios: Vec<_> = bests[1..].iter().map(|b| format!("{:.2}", b / bests[0])).collect();
         let two = |(fs, n): &(Counts, u32)| {
             let unit = unit(*n);
-            fs.iter().filter(|f| (**f * unit / FINE as u32).min(TOP) < (**f * (unit + 1) / FINE as u32).min(TOP)).count()
+            fs.iter().map(|f| places(*f, unit)).filter(|(low, high)| low < high).count()
         };
         let all: usize = messages.iter().map(|m| m.0.len()).sum();
         let share = 100.0 * messages.iter().map(two).sum::<usize>() as f64 / all as f64;
