@@ -225,7 +225,7 @@ fn join(
     }
 }
 
-// A message in any of its forms, which its list can't tell apart.
+// A message in any of its forms: of these the log keeps the urgency alone.
 fn message(
     state: &mut [u8],
     time: u32,

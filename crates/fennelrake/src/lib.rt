@@ -137,7 +137,7 @@ fn first_terms(bytes: &[u8], count: usize) -> [u16; MOST_PAIRS]
     terms
 }
 
-fn at_most_all(n: usize) -> usize
+fn at_most_pairs(n: usize) -> usize
     ensures { λ r. ⌜ (r ≤ mostPairs) × (r ≤ n) × (r < mostPairs → r ≡ n) ⌝ }
 {
     if n < MOST_PAIRS { n } else { MOST_PAIRS }
@@ -160,7 +160,7 @@ pub extern "C" fn fennelrake_write(
 ) -> u64
     ensures { λ r. ⌜ WritePost (fromFields (fields kind time serial urgency number k pairs (termsOf (now (terms .entry))) (now (amounts .entry)))) (now (out .entry)) (now (out .exit)) (heardWriting r) ⌝ }
 {
-    let count = at_most_all(terms.len() / 2);
+    let count = at_most_pairs(terms.len() / 2);
     let first = first_terms(terms, count);
     let written = frame::write(
         out,

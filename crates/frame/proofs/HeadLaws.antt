@@ -16,7 +16,8 @@ use Rattle.wire.specs.Field.{field, placed, total, spell, scan}
 use Rattle.wire.proofs.BitLaws.{length-bits}
 use Rattle.wire.proofs.FieldLaws.{field-lt}
 use Rattle.wire.proofs.LayoutLaws.{total-append, scan-append, spell-append}
-use Rattle.paper.specs.Frame.{Pair, Urgency, Form, Field, Fields, Row as TableRow, urgencyOf, kindOf, gradeOf, kindWidth, width, widths, rowOf, valuesAt, pairsBy, messageRow, tickRow, registerRow, unregisterRow, cancelRow, gradedBy, noRow, gradeKnown, gradesKnown, frameOf, termWidth, pairsWidth, longPairsWidth, mostPairs}
+use Rattle.paper.specs.Frame.{Pair, Urgency, Form, Field, Fields, Row as TableRow, urgencyOf, kindOf, gradeOf, kindWidth, width, widths, rowOf, valuesAt}
+use Rattle.paper.specs.Frame.{pairsBy, messageRow, tickRow, registerRow, unregisterRow, cancelRow, gradedBy, noRow, gradeKnown, gradesKnown, frameOf, termWidth, pairsWidth, longPairsWidth, mostPairs}
 use Rattle.paper.specs.Frame.Field.{plain, lessOne as lessOneField, grade}
 use Rattle.paper.specs.Frame.Form.{graded, long}
 use Rattle.paper.specs.Frame.Frame.{message}

@@ -2,7 +2,6 @@
 use Rattle.engine.proofs.ReadLaws.{read-message, read-register, read-eight, read-unregister, read-as}
 use Rattle.engine.proofs.PostLaws.{not-lent, misshapen, done}
 use native.Mathlib.Omega.{arith}
-use mathlib.Core.Path.{refl}
 use borrow.Author.Needs.{needs}
 use Rattle.engine.proofs.frame.Statement.{statement}
 use Rattle.engine.proofs.frame.Tie as tie

@@ -21,7 +21,7 @@ handed c =
 slice-aggregate-write : tie.Need-slice-aggregate-write
 slice-aggregate-write c =
     let long : length (c .before .before .first-terms .result) ≡ mostPairs = search needs in
-    sym (length-take-le (c .before .before .before .at-most-all .result) (c .before .before .first-terms .result) (omega arith))
+    sym (length-take-le (c .before .before .before .at-most-pairs .result) (c .before .before .first-terms .result) (omega arith))
 
 add-result : tie.Need-add-result
 add-result c =
@@ -29,7 +29,7 @@ add-result c =
     let taken = written .before .before .before in
     let counted = taken .before in
     let start = counted .before .before .before .before in
-    let most = written-most (withTerms (handed start) (take (counted .at-most-all .result) (taken .first-terms .result))) (written .write .ensures) in
+    let most = written-most (withTerms (handed start) (take (counted .at-most-pairs .result) (taken .first-terms .result))) (written .write .ensures) in
     record { fits = omega arith }
 
 returns : tie.Need-returns
@@ -38,8 +38,8 @@ returns c =
     let taken = written .before .before .before in
     let counted = taken .before in
     let start = counted .before .before .before .before in
-    write-heard (handed start) (counted .at-most-all .result) (taken .first-terms .ensures) (omega arith)
-    (λ h. omega (arith, length-terms (now (start .args .terms)), counted .at-most-all .ensures .2 h)) (written .write .ensures)
+    write-heard (handed start) (counted .at-most-pairs .result) (taken .first-terms .ensures) (omega arith)
+    (λ h. omega (arith, length-terms (now (start .args .terms)), counted .at-most-pairs .ensures .2 h)) (written .write .ensures)
 
 pub fennelrake-write-spec : {M : Type 1} → statement M
 fennelrake-write-spec =
