@@ -191,19 +191,8 @@ const EVENTS: [Event; 70] = [
     Event::SearchOfLatePairs,
 ];
 
-/// Those for which there have to be more than 16 terms.
-const OF_LONG_MESSAGES: [Event; 10] = [
-    Event::LongArrival,
-    Event::LongLeavingByAge,
-    Event::LongLeavingForN,
-    Event::LongCancelled,
-    Event::LongListed,
-    Event::LongestListed,
-    Event::ArrivalReachingByLatePairs,
-    Event::LeavingReachingByLatePairs,
-    Event::PostingOfALatePair,
-    Event::SearchOfLatePairs,
-];
+/// Those for which there have to be more than 16 terms: the last ones.
+const OF_LONG_MESSAGES: &[Event] = EVENTS.split_at(Event::LongArrival as usize).1;
 
 struct Met {
     numbers: [usize; 15],
@@ -679,7 +668,7 @@ fn one_second_of_life() {
 fn ties() {
     let (terms, rare) = (2, 0);
     let style = Style { capacity: 40, life: 300, terms, rare, counts: 1, serials: 120, queries: 10, entries: 16, step: 2, jump: 60, cancels: 18 };
-    run(style, 8000, 15, &OF_LONG_MESSAGES);
+    run(style, 8000, 15, OF_LONG_MESSAGES);
 }
 
 #[test]
@@ -709,7 +698,7 @@ fn cancelled_as_often_as_sent() {
 #[test]
 fn urgencies_decide() {
     let style = Style { capacity: 12, life: 60, terms: 2, rare: 0, counts: 1, serials: 40, queries: 8, entries: 4, step: 2, jump: 30, cancels: 9 };
-    run(style, 6000, 5, &OF_LONG_MESSAGES);
+    run(style, 6000, 5, OF_LONG_MESSAGES);
 }
 
 /// One term: every score for a query is the same, so only urgency and order of acceptance are left.
@@ -726,7 +715,7 @@ fn one_score() {
         Event::ThresholdAtTheTop,
     ];
     let style = Style { capacity: 9, life: 40, terms: 1, rare: 0, counts: 3, serials: 30, queries: 6, entries: 4, step: 2, jump: 30, cancels: 9 };
-    run(style, 4000, 9, &[&ruled_out[..], &OF_LONG_MESSAGES].concat());
+    run(style, 4000, 9, &[&ruled_out[..], OF_LONG_MESSAGES].concat());
 }
 
 // ---- passages by hand: every message has term 5 once, mostly alone, and query 0, where there is one, lists the best 16 by it
