@@ -15,6 +15,7 @@ use Rattle.paper.specs.Frame.{Pair, Pairs, AllFit, termWidth, countWidth, mostP
 use Rattle.paper.specs.Impact.{impact, squares, countOf, impactIn}
 use Rattle.paper.specs.Write.{side-by-side}
 use Rattle.paper.proofs.Tests.{and-true}
+use Rattle.paper.proofs.FrameLaws.{rises-parts}
 use Rattle.paper.proofs.ImpactLaws.{impact-most}
 use Rattle.paper.proofs.WriteLaws.{length-side}
 use Rattle.impact.specs.Cell.{impactWidth, packed, cellTerm, cellImpact, cellOf, cellsOf, squaresOf, lookup, RisingCells, RisingTerms}
@@ -62,10 +63,6 @@ module _ (n : ℕ) where
   terms-in (p ∷ ps) a = ap₂ _∷_ (packed-term (a .0) (a .1) (impact-small (p .amount) n)) (terms-in ps (a .2))
 
 -- ---- rising terms
-
-rises-parts : (least : ℕ) (p : Pair) (ps : List Pair) → rises least (p ∷ ps) ≡ true → (least ≤ p .term) × (rises (suc (p .term)) ps ≡ true)
-unfolding rises
-rises-parts least p ps e = let s = and-true (leb least (p .term)) (rises (suc (p .term)) ps) e in (leb-true least (p .term) (s .0), s .1)
 
 rises-from : (least : ℕ) (ps : List Pair) → rises least ps ≡ true → (j : ℕ) → j < length ps → least ≤ getD (terms ps) j 0
 rises-from least [] e j h = absurd (not-suc-le-zero h)

@@ -11,10 +11,11 @@ use Rattle.paper.specs.Rank.{ranking, postings}
 use Rattle.paper.specs.Log.{hasSerial, judge, accept, after, departs, departures, judgeList, seen, listed}
 use Rattle.paper.specs.Threshold.{thresholdSum, lastScore}
 use Rattle.paper.specs.Search.{countIn, products, highest, highestAt, without, ends, searchOn, search, asked, judgeSearch, found}
+use Rattle.paper.specs.Closeness.{closeness, pairsOf, judgeCloseness, closenessIn}
 use Rattle.paper.specs.Cases.{table, computed, expected}
 
 pub cases-hold : map computed table ≡ map expected table
 unfolding table odd bits num unpack pack field total spell scan rowOf pairWidths pairValues written encode frameOf pairsAt positive rises gradesKnown check shapeOfKind
     shape inForce noting departing greatest impact squares countOf impactIn scoreBy select insert inserts ranking postings hasSerial judge accept after departs departures judgeList seen listed
-    thresholdSum lastScore countIn products highest highestAt without ends searchOn search asked judgeSearch found
+    thresholdSum lastScore countIn products highest highestAt without ends searchOn search asked judgeSearch found closeness pairsOf judgeCloseness closenessIn
 cases-hold = refl

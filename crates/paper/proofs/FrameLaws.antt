@@ -63,6 +63,11 @@ unfolding pairsAt
 pairs-fit s at w zero = tt
 pairs-fit s at w (suc m) = (field-lt s at termWidth, field-lt s (at + termWidth) w, pairs-fit s (at + (termWidth + w)) w m)
 
+-- terms that rise: the first, and those after it
+pub rises-parts : (least : ℕ) (p : Pair) (ps : List Pair) → rises least (p ∷ ps) ≡ true → (least ≤ p .term) × (rises (suc (p .term)) ps ≡ true)
+unfolding rises
+rises-parts least p ps e = let s = and-true (leb least (p .term)) (rises (suc (p .term)) ps) e in (leb-true least (p .term) (s .0), s .1)
+
 -- ---- bytes and what is read in them
 
 -- the fields of these bytes before the pairs are the values, their pairs are ps, and the rest is zero fill

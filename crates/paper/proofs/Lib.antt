@@ -9,6 +9,8 @@ pub mod RankLaws
 pub mod ThresholdLaws
 pub mod Steps
 pub mod SearchLaws
+pub mod Cauchy
+pub mod ClosenessLaws
 pub mod LeadLaws
 pub mod PlaceLaws
 pub mod MarkLaws

@@ -1,5 +1,5 @@
 -- The starred cases of document 01, "Worked passages", under document 02's age rule (T-01); C8, which moves with that rule; cancellations (T-02);
--- urgencies (T-04); searches (T-05); longer messages (T-06); and rows for the order of the refusals 1 to 6 and 14: as one table.
+-- urgencies (T-04); searches (T-05); longer messages (T-06); closeness (T-07); and rows for the order of the refusals 1 to 6 and 14: as one table.
 -- proofs/CasesHold.antt has its one theorem. Assumes nothing.
 use Prim.Native.Nat.{ℕ, suc}
 use mathlib.Core.List.{List, [], _∷_, _++_, map}
@@ -13,6 +13,7 @@ use Rattle.paper.specs.Rank.{Line, lines}
 use Rattle.paper.specs.Layout.{stateLength}
 use Rattle.paper.specs.Log.{Log, Call, fresh, judge, after, departures, listed}
 use Rattle.paper.specs.Search.{Outcome, refusalOf, judgeSearch, found}
+use Rattle.paper.specs.Closeness.{Closeness, judgeCloseness, closenessIn}
 
 pub data Case : Type 0 where
   -- the counts of a message's terms; the impact of each
@@ -25,6 +26,8 @@ pub data Case : Type 0 where
   passage : ℕ → ℕ → List (List ℕ) → List (List ℕ) → Case
   -- N, T and frames, and the bytes of a search after them; its number, its postings read, and serial and score of each entry found
   searching : ℕ → ℕ → List (List ℕ) → List ℕ → List ℕ → Case
+  -- N, T and frames, and a serial and a query's number after them; the number of the closeness, its quotient and its remainder
+  comparing : ℕ → ℕ → List (List ℕ) → ℕ → ℕ → List ℕ → Case
 
 -- ---- what the definitions give for a case
 
@@ -60,6 +63,9 @@ fed log (b ∷ bs) = fed (after 0 log (call b)) bs
 abbrev pub told : Outcome → List ℕ
 told r = r .read ∷ flat (lines (r .list))
 
+abbrev pub compared : Closeness → List ℕ
+compared c = c .quotient ∷ c .remainder ∷ []
+
 abbrev pub computed : Case → List (List ℕ)
 computed (impacts fs ws) = impactsOf (numbered 0 fs) ∷ []
 computed (spelling f bytes) = encode f ∷ (refusalOf (shape bytes) ∷ []) ∷ []
@@ -67,6 +73,9 @@ computed (judging bytes r) = (refusalOf (shape bytes) ∷ []) ∷ []
 computed (passage N T frames told) = run (fresh N T) frames
 computed (searching N T frames bytes answer) =
     (judgeSearch 0 bytes stateLength 0 ∷ told (found 0 (fed (fresh N T) frames) bytes stateLength 0)) ∷ []
+computed (comparing N T frames s n answer) =
+    let log = fed (fresh N T) frames in
+    (judgeCloseness 0 log stateLength 0 s n ∷ compared (closenessIn 0 log stateLength 0 s n)) ∷ []
 
 abbrev pub expected : Case → List (List ℕ)
 expected (impacts fs ws) = ws ∷ []
@@ -74,6 +83,7 @@ expected (spelling f bytes) = bytes ∷ (0 ∷ []) ∷ []
 expected (judging bytes r) = (r ∷ []) ∷ []
 expected (passage N T frames told) = told
 expected (searching N T frames bytes answer) = answer ∷ []
+expected (comparing N T frames s n answer) = answer ∷ []
 
 -- ---- the table
 
@@ -198,6 +208,22 @@ bothInOne = map encode (message 10 1 ungraded (at 5 1 ∷ at 9 1 ∷ []) ∷ mes
 -- Two postings of one message come before the first of another.
 abbrev pub twiceOne : List (List ℕ)
 twiceOne = map encode (message 10 1 ungraded (at 5 1 ∷ at 9 1 ∷ []) ∷ message 20 2 ungraded (at 40 1 ∷ []) ∷ [])
+
+-- Query 0's weights times 3; one count more than that; a term more; no term of it; and the most that counts and weights can be, for query 1. Message 6 is
+-- cancelled.
+abbrev pub close : List (List ℕ)
+close =
+    map encode
+    (registered
+    ∷ register 0 1 1 (numbered 0 (replicate 8 15))
+    ∷ message 10 1 ungraded (at 5 3 ∷ at 9 6 ∷ [])
+    ∷ message 10 2 ungraded (at 5 3 ∷ at 9 7 ∷ [])
+    ∷ message 10 3 ungraded (at 5 1 ∷ at 9 2 ∷ at 40 1 ∷ [])
+    ∷ message 10 4 ungraded (at 6 4 ∷ [])
+    ∷ message 10 5 (long routine) (numbered 0 (replicate 32 255))
+    ∷ message 10 6 ungraded (at 5 1 ∷ at 9 2 ∷ [])
+    ∷ cancel 10 6
+    ∷ [])
 
 unfoldable pub table : List Case
 table =
@@ -341,6 +367,19 @@ table =
     ∷ (0 ∷ 1 ∷ 2 ∷ 2000 ∷ 3 ∷ 353 ∷ [])
     ∷ (0 ∷ 1 ∷ 3 ∷ 353 ∷ [])
     ∷ [])
+    -- T-07
+    ∷ comparing 8 100 close 1 0 (0 ∷ 1000 ∷ 0 ∷ [])
+    ∷ comparing 8 100 close 2 0 (0 ∷ 996 ∷ 160 ∷ [])
+    ∷ comparing 8 100 close 3 0 (0 ∷ 833 ∷ 10 ∷ [])
+    ∷ comparing 8 100 close 4 0 (0 ∷ 0 ∷ 0 ∷ [])
+    ∷ comparing 8 100 close 5 1 (0 ∷ 250 ∷ 0 ∷ [])
+    ∷ comparing 3 100 c10Start 2 0 (0 ∷ 200 ∷ 0 ∷ [])
+    -- cancelled, and for N no more in force; 13 before 10; numbers not in use
+    ∷ comparing 8 100 close 6 0 (13 ∷ 0 ∷ 0 ∷ [])
+    ∷ comparing 3 100 c10Start 1 0 (13 ∷ 0 ∷ 0 ∷ [])
+    ∷ comparing 8 100 close 7 2 (13 ∷ 0 ∷ 0 ∷ [])
+    ∷ comparing 8 100 close 1 2 (10 ∷ 0 ∷ 0 ∷ [])
+    ∷ comparing 8 100 close 1 32 (10 ∷ 0 ∷ 0 ∷ [])
     -- "Order for a frame": of all that is wrong the first is told. Each row mends one thing of the row above.
     ∷ judging (0x00 ∷ 0x00 ∷ 0x00 ∷ 0x00 ∷ []) 1
     ∷ judging (0x00 ∷ 0x00 ∷ 0x00 ∷ 0x00 ∷ 0x00 ∷ 0x09 ∷ 0x02 ∷ 0x40 ∷ 0x05 ∷ 0x01 ∷ 0x00 ∷ []) 2

@@ -10,5 +10,6 @@ pub mod Layout
 pub mod Log
 pub mod Demand3
 pub mod Search
+pub mod Closeness
 pub mod Cases
 pub mod Sound
