@@ -1,5 +1,5 @@
 pub mod FlagLaws
-pub mod CellLaws
+pub mod MeasureLaws
 pub mod TermLaws
 pub mod WalkLaws
 pub mod MatchLaws

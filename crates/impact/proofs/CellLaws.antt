@@ -18,7 +18,7 @@ use Rattle.paper.proofs.Tests.{and-true}
 use Rattle.paper.proofs.FrameLaws.{rises-parts}
 use Rattle.paper.proofs.ImpactLaws.{impact-most}
 use Rattle.paper.proofs.WriteLaws.{length-side}
-use Rattle.impact.specs.Cell.{impactWidth, packed, cellTerm, cellImpact, cellOf, cellsOf, squaresOf, lookup, RisingCells, RisingTerms}
+use Rattle.impact.specs.Cell.{impactWidth, packed, cellTerm, cellImpact, cellCount, cellOf, cellsOf, squaresOf, cellSquares, cellWith, lookup, RisingCells, RisingTerms}
 
 -- ---- a cell and its parts
 
@@ -28,6 +28,9 @@ module _ {t f v : ℕ} (term : t < 2 ^ termWidth) (count : f < 2 ^ countWidth) (
 
   pub packed-impact : cellImpact (packed t f v) ≡ v
   packed-impact = omega arith
+
+  packed-count : cellCount (packed t f v) ≡ f
+  packed-count = omega arith
 
 -- ---- the cells of a message
 
@@ -58,6 +61,24 @@ module _ (n : ℕ) where
       go true h ih = rw (ne-eqb (p .amount) 0 (λ z. omega arith))
       go false h ih = ih
 
+  count-in : (t : ℕ) (ps : List Pair) → AllFit countWidth ps → cellCount (cellWith t (map (cellOf n) ps)) ≡ countOf t ps
+  unfolding cellWith countOf
+  count-in t [] a = refl
+  count-in t (p ∷ ps) a =
+      let s = impact-small (p .amount) n in
+      rw (packed-term (a .0) (a .1) s) (go (eqb (p .term) t) (packed-count (a .0) (a .1) s) (count-in t ps (a .2)))
+    where
+      go : (b : Bool) → cellCount (cellOf n p) ≡ p .amount → cellCount (cellWith t (map (cellOf n) ps)) ≡ countOf t ps
+          → cellCount (cond b (cellOf n p) (cellWith t (map (cellOf n) ps))) ≡ cond b (p .amount) (countOf t ps)
+      go true here ih = here
+      go false here ih = ih
+
+  squares-in : (ps : List Pair) → AllFit countWidth ps → cellSquares (map (cellOf n) ps) ≡ squares ps
+  unfolding squaresOf squares
+  squares-in [] a = refl
+  squares-in (p ∷ ps) a =
+      rw (packed-count (a .0) (a .1) (impact-small (p .amount) n)) (ap (λ (x : ℕ). p .amount * p .amount + x) (squares-in ps (a .2)))
+
   terms-in : (ps : List Pair) → AllFit countWidth ps → map cellTerm (map (cellOf n) ps) ≡ terms ps
   terms-in [] a = refl
   terms-in (p ∷ ps) a = ap₂ _∷_ (packed-term (a .0) (a .1) (impact-small (p .amount) n)) (terms-in ps (a .2))
@@ -83,6 +104,14 @@ module _ (ps : List Pair) (v : Pairs countWidth mostPairs ps) where
   unfolding cellsOf impactIn
   lookup-cells t = lookup-in (squares ps) t ps (v .fit) (v .above-zero)
 
+  pub count-cells : (t : ℕ) → cellCount (cellWith t (cellsOf ps)) ≡ countOf t ps
+  unfolding cellsOf
+  count-cells t = count-in (squares ps) t ps (v .fit)
+
+  pub squares-cells : cellSquares (cellsOf ps) ≡ squares ps
+  unfolding cellsOf
+  squares-cells = squares-in (squares ps) ps (v .fit)
+
   term-at : (i : ℕ) → cellTerm (getD (cellsOf ps) i 0) ≡ getD (terms ps) i 0
   unfolding cellsOf
   term-at i = sym (List·getD-map cellTerm (cellsOf ps) i 0) ∙ ap (λ (ts : List ℕ). getD ts i 0) (terms-in (squares ps) ps (v .fit))
@@ -93,17 +122,27 @@ module _ (ps : List Pair) (v : Pairs countWidth mostPairs ps) where
 -- ---- a term looked up cell by cell
 
 module _ (t i : ℕ) (cs : List ℕ) where
-  pub lookup-here : i < length cs → cellTerm (getD cs i 0) ≡ t → lookup t (drop i cs) ≡ cellImpact (getD cs i 0)
-  unfolding lookup
-  lookup-here h e = rw (drop-cons cs i 0 h, eq-eqb _ _ e)
+  pub with-here : i < length cs → cellTerm (getD cs i 0) ≡ t → cellWith t (drop i cs) ≡ getD cs i 0
+  unfolding cellWith
+  with-here h e = rw (drop-cons cs i 0 h, eq-eqb _ _ e)
 
-  pub lookup-next : i < length cs → (cellTerm (getD cs i 0) ≡ t → ⊥) → lookup t (drop (i + 1) cs) ≡ lookup t (drop i cs)
-  unfolding lookup
-  lookup-next h e = rw (add-one, drop-cons cs i 0 h, ne-eqb _ _ e)
+  pub with-next : i < length cs → (cellTerm (getD cs i 0) ≡ t → ⊥) → cellWith t (drop (i + 1) cs) ≡ cellWith t (drop i cs)
+  unfolding cellWith
+  with-next h e = rw (add-one, drop-cons cs i 0 h, ne-eqb _ _ e)
 
-  pub lookup-end : length cs ≤ i → lookup t (drop i cs) ≡ 0
-  unfolding lookup
-  lookup-end h = rw (drop-of-length-le cs h)
+  pub with-end : length cs ≤ i → cellWith t (drop i cs) ≡ 0
+  unfolding cellWith
+  with-end h = rw (drop-of-length-le cs h)
+
+-- its impact
+pub with-impact : (t : ℕ) (cs : List ℕ) → cellImpact (cellWith t cs) ≡ lookup t cs
+unfolding cellWith lookup
+with-impact t [] = refl
+with-impact t (c ∷ cs) = go (eqb (cellTerm c) t) (with-impact t cs)
+  where
+    go : (b : Bool) → cellImpact (cellWith t cs) ≡ lookup t cs → cellImpact (cond b c (cellWith t cs)) ≡ cond b (cellImpact c) (lookup t cs)
+    go true ih = refl
+    go false ih = ih
 
 -- ---- a query's terms, as a list or an array that starts with them
 

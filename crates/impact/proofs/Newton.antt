@@ -27,6 +27,7 @@ use mathlib.Core.Path.{_≡_, refl, _∙_}
 use mathlib.Core.Bool.{Bool, true, false}
 use lib.Dec.{leb}
 use borrow.Author.Tests.{leb-true, leb-false}
+use Rattle.paper.proofs.Cauchy.{squares-above}
 
 -- ---- squares and products
 
@@ -41,29 +42,6 @@ square-less w = let a = add-mul w 1 (w + 1) in let b = mul-add w w 1 in omega ar
 pub root-most : (v w : ℕ) → v * v ≤ w * w → v ≤ w
 root-most v w h =
     unless-below (λ l. not-le-of-lt (lt-of-lt-of-le (square-less w) (mul-le-mul {n₂ = v} {m₂ = v} (omega arith) (omega arith))) h)
-
--- twice a product is at most the squares together
-products : (a b : ℕ) → a * b + a * b ≤ b * b + a * a
-products a b = go (leb a b) refl
-  where
-    apart : (c k : ℕ) → (c * (c + k) + c * (c + k) ≤ (c + k) * (c + k) + c * c) × ((c + k) * c + (c + k) * c ≤ c * c + (c + k) * (c + k))
-    apart c k =
-        let e = add-mul c k (c + k) in
-        let f = mul-add c c k in
-        let g = mul-add k c k in
-        let h = add-mul c k c in
-        let i = mul-comm k c in
-        (omega arith, omega arith)
-
-    go : (t : Bool) → leb a b ≡ t → a * b + a * b ≤ b * b + a * a
-    go true e =
-        let l : a ≤ b = leb-true a b e in
-        let d : b ≡ a + (b - a) = omega arith in
-        rw d (apart a (b - a) .0)
-    go false e =
-        let l : b < a = leb-false a b e in
-        let d : a ≡ b + (a - b) = omega arith in
-        rw d (apart b (a - b) .1)
 
 -- ---- a step
 
@@ -85,7 +63,7 @@ mean-above x r h =
     let m : ℕ = (r + x / r) / 2 + 1 in
     let next : x < suc (x / r) * r = div-lt-iff-lt-mul h .0 (lt-suc-self (x / r)) in
     let less : (r + suc (x / r)) * r ≤ (m + m) * r = mul-le-mul-right r (omega arith) in
-    let p = products m r in
+    let p = squares-above m r .0 in
     let s : r * r + suc (x / r) * r ≤ m * r + m * r = rw (← add-mul r (suc (x / r)) r, ← add-mul m m r) less in
     lt-of-lt-of-le next (omega arith)
 

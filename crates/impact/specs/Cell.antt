@@ -1,10 +1,10 @@
 -- A cell: one pair of a message with its impact, packed into a word. Assumes nothing.
-use Prim.Native.Nat.{ℕ, zero, suc, _+_, _*_, _/_, _%_, _^_, _<_}
+use Prim.Native.Nat.{ℕ, zero, suc, _+_, _-_, _*_, _/_, _%_, _^_, _<_}
 use mathlib.Core.Bool.{cond}
 use mathlib.Core.List.{List, [], _∷_, map}
 use lib.ListN.{length, getD}
 use lib.Dec.{eqb}
-use Rattle.paper.specs.Frame.{Pair, countWidth}
+use Rattle.paper.specs.Frame.{Pair, countWidth, mostPairs}
 use Rattle.paper.specs.Impact.{impact, squares}
 
 -- ten bits of term, eight of count, fourteen of impact
@@ -26,6 +26,9 @@ cellTerm c = c / termFactor
 abbrev pub cellImpact : ℕ → ℕ
 cellImpact c = c % countFactor
 
+abbrev pub cellCount : ℕ → ℕ
+cellCount c = c / countFactor % 2 ^ countWidth
+
 -- the cell of a pair of a message whose counts squared sum to n
 abbrev pub cellOf : ℕ → Pair → ℕ
 cellOf n p = packed (p .term) (p .amount) (impact (p .amount) n)
@@ -39,6 +42,18 @@ unfoldable pub squaresOf : ℕ → List ℕ → ℕ
 squaresOf zero fs = 0
 squaresOf (suc m) [] = 0
 squaresOf (suc m) (f ∷ fs) = f * f + squaresOf m fs
+
+-- the sum of the counts squared of these cells, and the most that it comes to
+abbrev pub cellSquares : List ℕ → ℕ
+cellSquares cs = squaresOf (length cs) (map cellCount cs)
+
+abbrev pub mostSquares : ℕ
+mostSquares = mostPairs * ((2 ^ countWidth - 1) * (2 ^ countWidth - 1))
+
+-- the first cell with a term, 0 where none has it: as a cell that would be no impact and no count
+unfoldable pub cellWith : ℕ → List ℕ → ℕ
+cellWith t [] = 0
+cellWith t (c ∷ cs) = cond (eqb (cellTerm c) t) c (cellWith t cs)
 
 -- the impact of a term in the message with these cells, 0 where it lacks the term
 unfoldable pub lookup : ℕ → List ℕ → ℕ

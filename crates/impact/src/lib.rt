@@ -4,7 +4,7 @@ ghost use Prim.Native.Nat.{ℕ, _+_, _*_, _/_, _^_, _<_, _≤_, min, max};
 ghost use lib.ListN.{getD};
 ghost use Rattle.paper.specs.Frame.{termWidth, countWidth, mostPairs};
 ghost use Rattle.paper.specs.Impact.{top, impact};
-ghost use Rattle.impact.specs.Cell.{impactWidth, packed, squaresOf};
+ghost use Rattle.impact.specs.Cell.{impactWidth, packed, cellCount, squaresOf};
 ghost use Rattle.impact.specs.Table.{squareTable, fine, reach};
 
 mod squares;
@@ -127,7 +127,9 @@ fn square(place: usize) -> u32
 // In a cell's word the impact has fourteen bits, the count eight above it, and the term those above.
 pub const COUNT_FACTOR: u32 = 1 << 14;
 
-pub const TERM_FACTOR: u32 = COUNT_FACTOR << 8;
+const COUNTS: u32 = 1 << 8;
+
+pub const TERM_FACTOR: u32 = COUNT_FACTOR * COUNTS;
 
 // A pair and its impact in one word.
 pub fn cell(term: u32, count: u32, impact: u32) -> u32
@@ -135,6 +137,13 @@ pub fn cell(term: u32, count: u32, impact: u32) -> u32
     ensures { λ r. ⌜ r ≡ packed term count impact ⌝ }
 {
     term * TERM_FACTOR + count * COUNT_FACTOR + impact
+}
+
+// The count in a cell.
+pub fn count_of(cell: u32) -> u32
+    ensures { λ r. ⌜ (r ≡ cellCount cell) × (r < 2 ^ countWidth) ⌝ }
+{
+    cell / COUNT_FACTOR % COUNTS
 }
 
 // The sum of the first m counts squared.

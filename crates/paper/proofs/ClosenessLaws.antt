@@ -128,7 +128,7 @@ module _ {v w m n : ℕ} (qs ps : List Pair) (q : Pairs w n qs) (p : Pairs v m p
   abbrev s : ℕ
   s = sharedSum qs ps
 
-  positive-divisor : 0 < divisor qs ps
+  pub positive-divisor : 0 < divisor qs ps
   positive-divisor = mul-pos (squares-positive ps (p .least-one) (p .above-zero)) (squares-positive qs (q .least-one) (q .above-zero))
 
   -- s, a and b as sums over all terms below a bound

@@ -98,7 +98,7 @@ count-in-squares t (p ∷ ps) = go (eqb (p .term) t) (count-in-squares t ps)
 abbrev most : ℕ
 most = 255 * 255
 
-square-most : (a : ℕ) → a < 256 → a * a ≤ most
+pub square-most : (a : ℕ) → a < 256 → a * a ≤ most
 square-most a h = mul-le-mul {n₂ = 255} {m₂ = 255} (omega arith) (omega arith)
 
 squares-most : (ps : List Pair) → AllFit countWidth ps → squares ps ≤ length ps * most

@@ -51,7 +51,7 @@ fn clamped(v: u32, least: u32, most: u32) -> u32
 }
 
 // The query that the record holds.
-fn load_query(state: &[u8], q: usize) -> Query
+pub fn load_query(state: &[u8], q: usize) -> Query
     requires { ⌜ (length (now state) ≡ stateLength) × (q < numbers) ⌝ }
     ensures { λ r. ⌜ LoadedQuery (words (now (state .entry))) q r ⌝ }
 {

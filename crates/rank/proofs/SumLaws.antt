@@ -8,26 +8,24 @@ use mathlib.Core.Bool.{Bool, _||_, or-assoc, or-false}
 use mathlib.Core.List.{List, [], _∷_}
 use lib.ListN.{length, getD, set}
 use lib.Dec.{ltb}
-use Rattle.rank.specs.Weights.{weightLimit, valueLimit, Below, weightedSum, exceeding}
+use Rattle.rank.specs.Weights.{weightLimit, mostWeight, Below, weightedSum, exceeding}
 
 -- ---- sums
 
--- no product is above that of the limits
-abbrev pub most : ℕ
-most = weightLimit * valueLimit
+-- no weight is above fifteen, and no value above `most`
+module _ (most : ℕ) where
+  pub product-most : (w v : ℕ) → w < weightLimit → v ≤ most → w * v ≤ mostWeight * most
+  product-most w v hw hv = mul-le-mul {n₂ = mostWeight} {m₂ = most} (omega arith) hv
 
-pub product-most : (w v : ℕ) → w < weightLimit → v < valueLimit → w * v ≤ most
-product-most w v hw hv = mul-le-mul {n₂ = weightLimit} {m₂ = valueLimit} (omega arith) (omega arith)
-
-pub sum-most : (n : ℕ) (ws vs : List ℕ) → Below n weightLimit ws → Below n valueLimit vs → weightedSum n ws vs ≤ n * most
-unfolding weightedSum
-sum-most zero ws vs bw bv = omega arith
-sum-most (suc n) [] vs bw bv = omega arith
-sum-most (suc n) (w ∷ ws) [] bw bv = omega arith
-sum-most (suc n) (w ∷ ws) (v ∷ vs) bw bv =
-    let h = product-most w v (bw 0 (omega arith)) (bv 0 (omega arith)) in
-    let ih = sum-most n ws vs (λ i h. bw (suc i) (suc-le-suc h)) (λ i h. bv (suc i) (suc-le-suc h)) in
-    omega arith
+  pub sum-most : (n : ℕ) (ws vs : List ℕ) → Below n weightLimit ws → Below n (suc most) vs → weightedSum n ws vs ≤ n * (mostWeight * most)
+  unfolding weightedSum
+  sum-most zero ws vs bw bv = omega arith
+  sum-most (suc n) [] vs bw bv = omega arith
+  sum-most (suc n) (w ∷ ws) [] bw bv = omega arith
+  sum-most (suc n) (w ∷ ws) (v ∷ vs) bw bv =
+      let h = product-most w v (bw 0 (omega arith)) (omega (arith, bv 0 (omega arith))) in
+      let ih = sum-most n ws vs (λ i h. bw (suc i) (suc-le-suc h)) (λ i h. bv (suc i) (suc-le-suc h)) in
+      omega arith
 
 sum-suc : (i : ℕ) (ws vs : List ℕ) → i < length ws → i < length vs → weightedSum (suc i) ws vs ≡ weightedSum i ws vs + getD ws i 0 * getD vs i 0
 unfolding weightedSum

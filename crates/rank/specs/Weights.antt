@@ -1,6 +1,6 @@
 -- Sums over a query's weights, thresholds above which an impact lies, and thresholds raised until tight: paper's definitions without the terms.
 -- Assumes nothing.
-use Prim.Native.Nat.{ℕ, zero, suc, _+_, _*_, _^_, _≤_, _<_}
+use Prim.Native.Nat.{ℕ, zero, suc, _+_, _-_, _*_, _^_, _≤_, _<_}
 use mathlib.Core.Path.{_≡_}
 use mathlib.Core.Bool.{Bool, false, _||_}
 use mathlib.Core.List.{List, [], _∷_}
@@ -14,8 +14,14 @@ use Rattle.impact.specs.Cell.{impactWidth}
 abbrev pub weightLimit : ℕ
 weightLimit = 2 ^ weightWidth
 
+abbrev pub mostWeight : ℕ
+mostWeight = weightLimit - 1
+
 abbrev pub valueLimit : ℕ
 valueLimit = 2 ^ impactWidth
+
+abbrev pub mostValue : ℕ
+mostValue = valueLimit - 1
 
 -- the first n places are below a limit
 abbrev pub Below : ℕ → ℕ → List ℕ → Type 0

@@ -10,7 +10,7 @@ ghost use Rattle.paper.specs.Write.{side-by-side};
 ghost use Rattle.paper.specs.Layout.{slots, stateWords, stateLength};
 ghost use Rattle.memory.specs.Words.{words};
 ghost use Rattle.memory.specs.Keeps.{Stored};
-ghost use Rattle.impact.specs.Cell.{cellsOf, lookup};
+ghost use Rattle.impact.specs.Cell.{mostSquares, cellCount, cellsOf, cellSquares, cellWith, lookup};
 ghost use Rattle.window.specs.Slot.{slot, sizeAt, gradeIn, ring, window, live, next, holdsSerial, seek};
 ghost use Rattle.window.specs.Table.{termLimit, Raised, RaisedBy};
 ghost use Rattle.window.specs.Rows.{rowWidth, touches, LookedAt};
@@ -70,10 +70,10 @@ fn size_in(state: &[u8], j: usize) -> usize
     if size < MOST_PAIRS { size } else { MOST_PAIRS }
 }
 
-// The impact of the message in slot j in the term: that of the first cell with it, 0 where the message lacks it.
-pub fn impact_in(state: &[u8], j: usize, term: u32) -> u32
+// The first cell of the message in slot j that has the term, 0 where none has it.
+fn cell_in(state: &[u8], j: usize, term: u32) -> u32
     requires { ⌜ (length (now state) ≡ stateLength) × (j < slots) ⌝ }
-    ensures { λ r. ⌜ r ≡ lookup term (slot (words (now (state .entry))) j .cells) ⌝ }
+    ensures { λ r. ⌜ r ≡ cellWith term (slot (words (now (state .entry))) j .cells) ⌝ }
 {
     let cells = layout::CELLS + MOST_PAIRS * j;
     let size = size_in(state, j);
@@ -81,11 +81,44 @@ pub fn impact_in(state: &[u8], j: usize, term: u32) -> u32
     while i < size {
         let cell = memory::get(state, cells + i);
         if cell / impact::TERM_FACTOR == term {
-            return cell % impact::COUNT_FACTOR;
+            return cell;
         }
         i += 1;
     }
     0
+}
+
+// The impact of the message in slot j in the term: that of the first cell with it, 0 where the message lacks it.
+pub fn impact_in(state: &[u8], j: usize, term: u32) -> u32
+    requires { ⌜ (length (now state) ≡ stateLength) × (j < slots) ⌝ }
+    ensures { λ r. ⌜ r ≡ lookup term (slot (words (now (state .entry))) j .cells) ⌝ }
+{
+    cell_in(state, j, term) % impact::COUNT_FACTOR
+}
+
+// The count of the term in the message in slot j, 0 where the message lacks it.
+pub fn count_in(state: &[u8], j: usize, term: u32) -> u32
+    requires { ⌜ (length (now state) ≡ stateLength) × (j < slots) ⌝ }
+    ensures { λ r. ⌜ (r ≡ cellCount (cellWith term (slot (words (now (state .entry))) j .cells))) × (r < 2 ^ countWidth) ⌝ }
+{
+    impact::count_of(cell_in(state, j, term))
+}
+
+// The sum of the counts squared of the message in slot j.
+pub fn squares_in(state: &[u8], j: usize) -> u32
+    requires { ⌜ (length (now state) ≡ stateLength) × (j < slots) ⌝ }
+    ensures { λ r. ⌜ (r ≡ cellSquares (slot (words (now (state .entry))) j .cells)) × (r ≤ mostSquares) ⌝ }
+{
+    let cells = layout::CELLS + MOST_PAIRS * j;
+    let size = size_in(state, j);
+    let mut sum: u32 = 0;
+    let mut i: usize = 0;
+    while i < size {
+        let count = impact::count_of(memory::get(state, cells + i));
+        sum += count * count;
+        i += 1;
+    }
+    sum
 }
 
 pub fn greater(a: u16, b: u16) -> u16
