@@ -21,7 +21,7 @@ use Rattle.candidates.specs.Post.{termsOf}
 use Rattle.candidates.proofs.MeasureLaws.{score-found}
 use Rattle.query.specs.Post.{Is}
 use Rattle.closeness.specs.declared.Closeness.{Closeness}
-use Rattle.closeness.specs.Post.{countIn, Counts, mostShared, mostWeights, Divided, Compared}
+use Rattle.closeness.specs.Post.{countIn, Counts, mostShared, mostWeights, Divided, toldOf, Compared}
 
 -- ---- how large they get
 
@@ -69,11 +69,12 @@ module _ (x : Slot) (q : Query) (fs : List ℕ) (lt : q .n ≤ length (q .terms)
     weights : weightedSum (q .n) (q .weights) (q .weights) ≡ squares (query .terms)
     weights = sum-squares (q .n) (q .weights) ∙ sym (squares-side (q .n) (q .terms) (q .weights) lt) ∙ ap squares (is .terms)
 
-    paper-closeness : (r .quotient ≡ closeness (query .terms) (m .pairs) .quotient) × (r .remainder ≡ closeness (query .terms) (m .pairs) .remainder)
+    paper-closeness : toldOf r ≡ closeness (query .terms) (m .pairs)
     unfolding closeness
     paper-closeness =
         let e : Divided (sharedSum (query .terms) (m .pairs)) (squares (m .pairs)) (squares (query .terms)) r = rw (shared, message, weights) at d in
-        exact e (positive-divisor (query .terms) (m .pairs) (t .terms) v) (quotient-most (query .terms) (m .pairs) (t .terms) v)
+        let x = exact e (positive-divisor (query .terms) (m .pairs) (t .terms) v) (quotient-most (query .terms) (m .pairs) (t .terms) v) in
+        λ i. record { quotient = x .0 i; remainder = x .1 i }
 
   pub compared : Compared x q r
   compared = record {

@@ -8,6 +8,7 @@ use Rattle.paper.specs.Window.{Message}
 use Rattle.paper.specs.Rank as Rank
 use Rattle.paper.specs.Sound.{Terms}
 use Rattle.paper.specs.Closeness.{whole, closeness}
+use Rattle.paper.specs.Closeness as Paper
 use Rattle.impact.specs.Cell.{cellCount, cellWith}
 use Rattle.rank.specs.Weights.{mostWeight}
 use Rattle.window.specs.Slot.{Slot, stored}
@@ -35,8 +36,11 @@ pub record Divided (s a b : ℕ) (r : Closeness) : Type 0 where
   pub quotient : r .quotient ≡ min (whole * (s * s) / max (a * b) 1) whole
   pub remainder : r .remainder ≡ whole * (s * s) % max (a * b) 1
 
+abbrev pub toldOf : Closeness → Paper.Closeness
+toldOf r = record { quotient = r .quotient; remainder = r .remainder }
+
 -- of a slot that holds a message, and for a query, it is the paper's closeness
 pub record Compared (x : Slot) (q : Query) (r : Closeness) : Type 0 where
   pub most : r .quotient ≤ whole
   pub right : (m : Message) (query : Rank.Query) → x ≡ stored m → Pairs countWidth mostPairs (m .pairs) → Terms query → Is q query
-      → (r .quotient ≡ closeness (query .terms) (m .pairs) .quotient) × (r .remainder ≡ closeness (query .terms) (m .pairs) .remainder)
+      → toldOf r ≡ closeness (query .terms) (m .pairs)

@@ -16,3 +16,4 @@ pub mod ReadLaws
 pub mod Demand3
 pub mod PostingLaws
 pub mod SearchLaws
+pub mod ClosenessLaws

@@ -2,15 +2,14 @@
 use Prim.Native.Nat.{ℕ, _≤_, _<_}
 use native.Mathlib.Omega.{arith}
 use mathlib.Core.Path.{_≡_, refl, sym, ap, _∙_}
-use mathlib.Core.Bool.{Bool, true, false, cond, not, true≢false}
+use mathlib.Core.Bool.{Bool, true, false, cond, true≢false}
 use mathlib.Core.List.{List, [], map}
 use mathlib.Core.Option.{Option, none, some}
-use lib.ListN.{length, getD, List·getD-eq-default}
-use lib.Dec.{eqb}
+use lib.ListN.{length}
 use borrow.Author.Tests.{eq-eqb}
 use Rattle.paper.specs.Frame.{numbers}
 use Rattle.paper.specs.Rank.{Query, ranking, lines}
-use Rattle.paper.specs.Layout.{stateLength, recordAt}
+use Rattle.paper.specs.Layout.{stateLength}
 use Rattle.paper.specs.Log.{Log, queryAt, inUse, judgeList, seen}
 use Rattle.paper.specs.Log as Log
 use Rattle.memory.specs.Words.{words}
@@ -20,8 +19,9 @@ use Rattle.rank.specs.Listing.{keyedOf, shown, linesOf, Tidy, TidyLines, NoLine
 use Rattle.query.specs.Record.{keys, HoldsAt, Holds}
 use Rattle.query.specs.Post.{LoadedList}
 use Rattle.engine.specs.Represents.{Represents, oldestOf, countOf}
+use Rattle.engine.specs.Inner.{registeredIn}
 use Rattle.engine.specs.Post.{ListPost}
-use Rattle.engine.proofs.RepresentsLaws.{used}
+use Rattle.engine.proofs.RepresentsLaws.{registered-below, in-use}
 
 module _ (s : List ℕ) (n : ℕ) where
   pub list-not-lent : {l : Lines} → (length s ≡ stateLength → ⊥) → NoLine l → ListPost s n (record { number = 12; list = l })
@@ -46,24 +46,20 @@ module _ (s : List ℕ) (n : ℕ) where
     unfolding Log.listed
     listed-some log q e = rw (judged log (ap inUse e), e) refl
 
-    -- the log has no such query
-    pub list-unused : {l : Lines} → ((log : Log) → Represents log (words s) → inUse (queryAt log n) ≡ false) → NoLine l → ListPost s n (record { number = 10; list = l })
-    list-unused absent e = record {
-      not-lent = λ h. absurd (h long);
-      no-number = λ _ _. refl;
-      most = let z = e .count in omega arith;
-      refused = λ _. (e .list, e .tidy);
-      right = λ log r _. (sym (judged log (absent log r)), e .list ∙ listed-none log (absent log r), e .tidy);
-    }
-
-    -- numbers above 31
-    pub above : numbers ≤ n → (log : Log) → Represents log (words s) → inUse (queryAt log n) ≡ false
-    above h log r = let k = r .sound .numbered in ap inUse (List·getD-eq-default (log .queries) none {n = n} (omega arith))
-
     -- the record says which are in use
-    module _ (h : n < numbers) {b : Bool} (test : b ≡ not (eqb (getD (words s) (recordAt n) 0) 0)) where
-      pub unused : b ≡ false → (log : Log) → Represents log (words s) → inUse (queryAt log n) ≡ false
-      unused e log r = used log (words s) n r h test ∙ e
+    module _ {b : Bool} (test : b ≡ registeredIn (words s) n) where
+      used-by : {d : Bool} → b ≡ d → (log : Log) → Represents log (words s) → inUse (queryAt log n) ≡ d
+      used-by e log r = in-use log (words s) n r ∙ sym test ∙ e
+
+      -- the log has no such query
+      pub list-unused : {l : Lines} → b ≡ false → NoLine l → ListPost s n (record { number = 10; list = l })
+      list-unused f e = record {
+        not-lent = λ h. absurd (h long);
+        no-number = λ _ _. refl;
+        most = let z = e .count in omega arith;
+        refused = λ _. (e .list, e .tidy);
+        right = λ log r _. let absent = used-by f log r in (sym (judged log absent), e .list ∙ listed-none log absent, e .tidy);
+      }
 
       -- the list of the record is that of the log
       held : {l : Ranked} (log : Log) (q : Query) → LoadedList (words s) n l → Holds (words s) n (oldestOf (words s)) (countOf (words s)) (seen log q) q
@@ -78,12 +74,15 @@ module _ (s : List ℕ) (n : ℕ) where
       pub list-right : {l : Ranked} {x : Lines} → b ≡ true → LoadedList (words s) n l → Shows l x → ListPost s n (record { number = 0; list = x })
       list-right {l} {x} e p shows = record {
         not-lent = λ h. absurd (h long);
-        no-number = λ _ k. absurd (omega arith);
+        no-number = λ _ k. absurd (omega (arith, below));
         most = let c = p .count-most in omega (arith, shows .count);
         refused = λ k. absurd (k refl);
-        right = λ log r _. go log (queryAt log n) refl (used log (words s) n r h test ∙ e) (r .records n h);
+        right = λ log r _. go log (queryAt log n) refl (used-by e log r) (r .records n below);
       }
         where
+          below : n < numbers
+          below = registered-below (words s) n (sym test ∙ e)
+
           go : (log : Log) (y : Option Query) → queryAt log n ≡ y → inUse (queryAt log n) ≡ true
               → HoldsAt (words s) n (oldestOf (words s)) (countOf (words s)) (seen log) y
               → (0 ≡ judgeList 0 log (length s) 0 n) × (linesOf x ≡ Log.listed 0 log (length s) 0 n) × TidyLines x

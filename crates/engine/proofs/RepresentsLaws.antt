@@ -2,12 +2,12 @@
 use Prim.Native.Nat.{ℕ, zero, suc, _<_}
 use native.Mathlib.Omega.{arith}
 use mathlib.Core.Path.{_≡_, refl, sym, ap, _∙_, subst}
-use mathlib.Core.Bool.{Bool, not}
+use mathlib.Core.Bool.{Bool, true, not}
 use mathlib.Core.List.{List, [], _∷_, map}
 use mathlib.Core.Option.{Option, none, some}
-use lib.ListN.{length, getD}
-use lib.Dec.{eqb}
-use borrow.Author.Tests.{not-true, not-false}
+use lib.ListN.{length, getD, List·getD-eq-default}
+use lib.Dec.{eqb, ltb}
+use borrow.Author.Tests.{not-true, not-false, ltb-true, ltb-false}
 use Rattle.paper.specs.Frame.{numbers}
 use Rattle.paper.specs.Rank.{Query}
 use Rattle.paper.specs.Window.{Message}
@@ -15,6 +15,7 @@ use Rattle.paper.specs.Layout.{recordAt}
 use Rattle.paper.specs.Log.{Log, queryAt, inUse, inForceNow, filledNow, seen}
 use Rattle.paper.specs.Sound.{Terms, Queries}
 use Rattle.paper.specs.Demand3.{SettledAt, AllSettled, reachedBy}
+use Rattle.paper.proofs.Tests.{by-bool, and-true}
 use Rattle.paper.proofs.LogLaws.{filled-valid}
 use Rattle.paper.proofs.WindowLaws.{in-force-filled}
 use Rattle.window.specs.Slot.{slot, stored, ring, live}
@@ -22,7 +23,7 @@ use Rattle.window.proofs.LogLaws.{live-shows}
 use Rattle.query.specs.Record.{keptOf, Holds, HoldsAt}
 use Rattle.query.proofs.RecordLaws.{in-use-is}
 use Rattle.engine.specs.Represents.{oldestOf, countOf, Represents, keeping}
-use Rattle.engine.specs.Inner.{reachedIn}
+use Rattle.engine.specs.Inner.{reachedIn, registeredIn}
 
 -- the slots in force hold the messages in force
 pub in-force-shows : (log : Log) (w : List ℕ) → Represents log w → map (slot w) (live w (ring (oldestOf w) (countOf w))) ≡ map stored (inForceNow log)
@@ -78,3 +79,15 @@ reached-by log w q moved r h =
 pub used : (log : Log) (w : List ℕ) (q : ℕ) {b : Bool} → Represents log w → q < numbers → b ≡ not (eqb (getD w (recordAt q) 0) 0) → inUse (queryAt log q) ≡ b
 used log w q r h test =
     sym (first-is w q (seen log) (queryAt log q) (λ y e. query-terms (log .queries) q y (r .sound .queries) e) (r .records q h)) ∙ sym test
+
+-- and one above the last never is
+pub registered-below : (w : List ℕ) (n : ℕ) → registeredIn w n ≡ true → n < numbers
+registered-below w n e = ltb-true n numbers (and-true (ltb n numbers) (not (eqb (getD w (recordAt n) 0) 0)) e .0)
+
+pub in-use : (log : Log) (w : List ℕ) (n : ℕ) → Represents log w → inUse (queryAt log n) ≡ registeredIn w n
+in-use log w n r =
+    by-bool (ltb n numbers) (λ e. rw e (used log w n r (ltb-true n numbers e) refl))
+    (λ e.
+    let k = ltb-false n numbers e in
+    let l = r .sound .numbered in
+    rw e (ap inUse (List·getD-eq-default (log .queries) none {n = n} (omega arith))))

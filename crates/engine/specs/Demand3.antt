@@ -8,6 +8,7 @@ use Rattle.paper.specs.Log.{Log, Call, fresh, replay, judgeList, listed, judgeP
 use lib.ListN.{length}
 use Rattle.paper.specs.Rank.{lines}
 use Rattle.paper.specs.Search.{judgeSearch, found}
+use Rattle.paper.specs.Closeness.{judgeCloseness, closenessIn}
 use Rattle.paper.specs.Demand3.{AllSettled, Answered}
 use Rattle.memory.specs.Words.{words}
 use Rattle.rank.specs.Listing.{linesOf, TidyLines}
@@ -15,8 +16,9 @@ use Rattle.engine.specs.declared.Reply.{Reply}
 use Rattle.engine.specs.declared.Listing.{Listing}
 use Rattle.engine.specs.declared.Found.{Found}
 use Rattle.engine.specs.declared.Searched.{Searched}
+use Rattle.engine.specs.declared.Compared.{Compared}
 use Rattle.engine.specs.Represents.{keeping}
-use Rattle.engine.specs.Post.{callOf, replyOf, FramePost, ListPost, postedInto, PostingsPost, SearchPost}
+use Rattle.engine.specs.Post.{callOf, replyOf, FramePost, ListPost, postedInto, PostingsPost, SearchPost, closeOf, ClosenessPost}
 
 -- frames handed one after another, each on the memory as the one before left it, chained by the promise of `frame`
 pub data Frames : List ℕ → List (List ℕ) → List ℕ → Type 0 where
@@ -50,6 +52,10 @@ pub record Demand3 (N T : ℕ) (s : List ℕ) (frames : List (List ℕ)) (s′ :
       × (linesOf (r .list) ≡ lines (found 0 (logOf N T s frames) bytes stateLength 0 .list))
       × (r .read ≡ found 0 (logOf N T s frames) bytes stateLength 0 .read)
       × TidyLines (r .list)
+  -- a closeness: "the quotient and exact remainder of 1000 × s² by a × b", of a message in force and a registered query; refused, nothing
+  pub closenesses : (serial n : ℕ) (r : Compared) → ClosenessPost s′ serial n r
+      → (r .number ≡ judgeCloseness 0 (logOf N T s frames) stateLength 0 serial n)
+      × (closeOf r ≡ closenessIn 0 (logOf N T s frames) stateLength 0 serial n)
   -- "A query registered before and after the last frame is marked by it exactly when an arriving or departing message has, in one of its terms,
   -- an impact above the threshold it had there before that frame; unmarked, its thresholds, candidates and list are as they were"
   pub last : (first : List (List ℕ)) (bytes : List ℕ) (r : Reply) (s₁ : List ℕ) → frames ≡ first ++ (bytes ∷ []) → Frames s first s₁ → FramePost s₁ bytes r s′

@@ -1,10 +1,11 @@
 -- What the functions inside the engine ensure. Assumes nothing.
 use Prim.Native.Nat.{ℕ, _+_, _-_, _%_, _≤_, _<_, _^_}
 use mathlib.Core.Path.{_≡_}
-use mathlib.Core.Bool.{Bool, false}
+use mathlib.Core.Bool.{Bool, false, not, _&&_}
 use mathlib.Core.List.{List, _++_}
 use mathlib.Core.Option.{Option, none, some}
 use lib.ListN.{length, getD}
+use lib.Dec.{eqb, ltb}
 use Rattle.paper.specs.Frame.{Frame, Valid, numbers}
 use Rattle.paper.specs.Rank.{Query}
 use Rattle.paper.specs.Window.{Message}
@@ -93,3 +94,7 @@ pub record Ticked (t : ℕ) (w : List ℕ) (r : Reply) (w′ : List ℕ) : Type 
   pub number : r .number ≡ 0
   pub small : r .marks < 2 ^ numbers
   pub right : (log : Log) → Represents log w → t < 2 ^ 32 → log .clock ≤ t → Accepted log (Frame.tick t) w r w′
+
+-- whether the number is that of a record in use
+abbrev pub registeredIn : List ℕ → ℕ → Bool
+registeredIn w n = ltb n numbers && not (eqb (getD w (recordAt n) 0) 0)

@@ -4,12 +4,13 @@ use mathlib.Core.Path.{_≡_}
 use mathlib.Core.Bool.{false}
 use mathlib.Core.List.{List, [], _++_}
 use lib.ListN.{length, take, drop, replicate}
-use Rattle.paper.specs.Frame.{shape, numbers, termWidth, mostListed}
+use Rattle.paper.specs.Frame.{shape, numbers, serialWidth, termWidth, mostListed}
 use Rattle.paper.specs.Frame.Shape.{refused}
 use Rattle.paper.specs.Layout.{stateLength, recordAt, recordWords, capacityAt, lifeAt}
 use Rattle.paper.specs.Log.{Log, Call, judgeStart, after, judgeList, listed, postingLength, posted, judgePostings}
 use Rattle.paper.specs.Rank.{lines}
 use Rattle.paper.specs.Search.{judgeSearch, found}
+use Rattle.paper.specs.Closeness.{Closeness, whole, judgeCloseness, closenessIn}
 use Rattle.paper.specs.Demand3.{replyTo, markedBy}
 use Rattle.paper.specs.Demand3 as Demand3
 use Rattle.memory.specs.Words.{words, putWord}
@@ -19,6 +20,7 @@ use Rattle.engine.specs.declared.Reply.{Reply}
 use Rattle.engine.specs.declared.Listing.{Listing}
 use Rattle.engine.specs.declared.Found.{Found}
 use Rattle.engine.specs.declared.Searched.{Searched}
+use Rattle.engine.specs.declared.Compared.{Compared}
 use Rattle.engine.specs.Represents.{Represents, keeping}
 
 -- a call with these bytes on state memory of this length; nothing is written into lent output
@@ -97,3 +99,17 @@ pub record SearchPost (s bytes : List ℕ) (r : Searched) : Type 0 where
   pub refused : (r .number ≡ 0 → ⊥) → (linesOf (r .list) ≡ []) × (r .read ≡ 0)
   pub right : (log : Log) → Represents log (words s)
       → (linesOf (r .list) ≡ lines (found 0 log bytes (length s) 0 .list)) × (r .read ≡ found 0 log bytes (length s) 0 .read)
+
+abbrev pub closeOf : Compared → Closeness
+closeOf r = record { quotient = r .quotient; remainder = r .remainder }
+
+-- "Arguments are a serial in force and a registered query, refused as 13 and 10, in that order, after 12." Whatever the memory holds, no frame has a
+-- serial above 1,048,575, and no quotient is above 1,000. The memory is lent to be read only.
+pub record ClosenessPost (s : List ℕ) (serial n : ℕ) (r : Compared) : Type 0 where
+  pub not-lent : (length s ≡ stateLength → ⊥) → r .number ≡ 12
+  pub no-serial : length s ≡ stateLength → 2 ^ serialWidth ≤ serial → r .number ≡ 13
+  pub most : r .quotient ≤ whole
+  pub refused : (r .number ≡ 0 → ⊥) → (r .quotient ≡ 0) × (r .remainder ≡ 0)
+  pub right : (log : Log) → Represents log (words s) → length s ≡ stateLength
+      → (r .number ≡ judgeCloseness 0 log (length s) 0 serial n)
+      × (closeOf r ≡ closenessIn 0 log (length s) 0 serial n)

@@ -11,13 +11,14 @@ ghost use Rattle.paper.specs.Layout.{stateLength, slots, capacityAt};
 ghost use Rattle.paper.specs.Log.{inRanges};
 ghost use Rattle.memory.specs.Words.{words};
 ghost use Rattle.rank.specs.Listing.{NoLine};
-ghost use Rattle.engine.specs.Post.{StartPost, FramePost, ListPost, PostingsPost, SearchPost};
+ghost use Rattle.engine.specs.Post.{StartPost, FramePost, ListPost, PostingsPost, SearchPost, ClosenessPost};
 ghost use Rattle.window.specs.Slot.{slot};
 ghost use Rattle.window.specs.Table.{termLimit, RaisedBy};
 ghost use Rattle.window.specs.Cursor.{Moved};
 ghost use Rattle.query.specs.Post.{arriving};
-ghost use Rattle.engine.specs.Inner.{Silenced, Passed, Followed, Departed, Joined, Did, Ticked};
+ghost use Rattle.engine.specs.Inner.{Silenced, Passed, Followed, Departed, Joined, Did, Ticked, registeredIn};
 use candidates::Query;
+use closeness::Closeness;
 use frame::Kind;
 use paper::MOST_PAIRS;
 use paper::layout;
@@ -50,6 +51,12 @@ pub struct Searched {
     pub number: u32,
     pub list: Lines,
     pub read: u32,
+}
+
+pub struct Compared {
+    pub number: u32,
+    pub quotient: u32,
+    pub remainder: u32,
 }
 
 fn refused(number: u32) -> Reply
@@ -447,6 +454,14 @@ pub fn frame(state: &mut [u8], bytes: &[u8]) -> Reply
     }
 }
 
+// Whether a query is registered under the number, which may be any.
+fn registered(state: &[u8], number: u32) -> bool
+    requires { ⌜ length (now state) ≡ stateLength ⌝ }
+    ensures { λ r. ⌜ r ≡ registeredIn (words (now (state .entry))) number ⌝ }
+{
+    number < NUMBERS && query::in_use(state, number as usize)
+}
+
 pub fn list(state: &[u8], number: u32) -> Listing
     ensures { λ r. ⌜ ListPost (now (state .entry)) number r ⌝ }
 {
@@ -456,14 +471,7 @@ pub fn list(state: &[u8], number: u32) -> Listing
             list: Lines::none(),
         };
     }
-    if NUMBERS <= number {
-        return Listing {
-            number: 10,
-            list: Lines::none(),
-        };
-    }
-    let q = number as usize;
-    if !query::in_use(state, q) {
+    if !registered(state, number) {
         return Listing {
             number: 10,
             list: Lines::none(),
@@ -471,7 +479,7 @@ pub fn list(state: &[u8], number: u32) -> Listing
     }
     Listing {
         number: 0,
-        list: Lines::of(query::load_list(state, q)),
+        list: Lines::of(query::load_list(state, number as usize)),
     }
 }
 
@@ -548,5 +556,43 @@ pub fn search(state: &[u8], bytes: &[u8]) -> Searched
         number: 0,
         list: Lines::of(outcome.list),
         read: outcome.read,
+    }
+}
+
+fn uncompared(number: u32) -> Compared
+    ensures { λ r. ⌜ (r .number ≡ number) × (r .quotient ≡ 0) × (r .remainder ≡ 0) ⌝ }
+{
+    Compared {
+        number,
+        quotient: 0,
+        remainder: 0,
+    }
+}
+
+// How close the message in force with the serial is to the query under the number. The slot of a cancelled message has a serial too, but none that a frame
+// could say: so none is looked for that isn't one.
+pub fn closeness(state: &[u8], serial: u32, number: u32) -> Compared
+    ensures { λ r. ⌜ ClosenessPost (now (state .entry)) serial number r × (now (state .exit) ≡ now (state .entry)) ⌝ }
+{
+    if state.len() != layout::STATE {
+        return uncompared(12);
+    }
+    if paper::SERIALS <= serial {
+        return uncompared(13);
+    }
+    let cursor = Cursor::load(state);
+    let j = window::slot_of(state, cursor.oldest, cursor.count, serial);
+    if layout::SLOTS <= j {
+        return uncompared(13);
+    }
+    if !registered(state, number) {
+        return uncompared(10);
+    }
+    let query = query::load_query(state, number as usize);
+    let close = Closeness::of(state, j, query);
+    Compared {
+        number: 0,
+        quotient: close.quotient,
+        remainder: close.remainder,
     }
 }
