@@ -62,7 +62,11 @@ fn at_least_one(product: u64) -> u64
 fn at_most_whole(quotient: u64) -> u32
     ensures { λ r. ⌜ r ≡ min quotient whole ⌝ }
 {
-    if quotient < WHOLE { quotient as u32 } else { WHOLE as u32 }
+    if quotient < WHOLE {
+        quotient as u32
+    } else {
+        WHOLE as u32
+    }
 }
 
 // By the sum of the products that both share, that of the message's counts squared and that of the query's weights squared.

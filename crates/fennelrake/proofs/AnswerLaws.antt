@@ -1,4 +1,4 @@
--- Laws of the answers to a frame, to a list reading and to a search: what a host hears of the words that were written. Assumes nothing.
+-- Laws of the answers to a frame, to a list reading, to a search and to a closeness: what a host hears of the words that were written. Assumes nothing.
 use Prim.Native.Nat.{ℕ, zero, suc, _+_, _≤_, _<_, _*_}
 use native.Mathlib.Omega.{arith}
 use mathlib.Core.Path.{_≡_, refl, sym, ap, _∙_, subst}
@@ -19,11 +19,42 @@ use Rattle.rank.specs.Listing.{listed, linesOf, TidyLines}
 use Rattle.engine.specs.declared.Reply.{Reply}
 use Rattle.engine.specs.declared.Listing.{Listing}
 use Rattle.engine.specs.declared.Searched.{Searched}
-use Rattle.engine.specs.Post.{FramePost, ListPost, SearchPost}
-use Rattle.fennelrake.specs.Entry.{frameAnswer, listAnswer, searchAnswer, Output, heardReply, heardList, noEntry, heardListing, heardSearch, FrameEntry, ListEntry, SearchEntry}
+use Rattle.engine.specs.declared.Compared.{Compared}
+use Rattle.engine.specs.Post.{FramePost, ListPost, SearchPost, ClosenessPost}
+use Rattle.fennelrake.specs.Entry.{frameAnswer, listAnswer, searchAnswer, closenessAnswer, Output, heardReply, heardList, noEntry, heardListing, heardSearch, heardCloseness, FrameEntry, ListEntry, SearchEntry, ClosenessEntry}
 
 output-same : (written number : ℕ) (a : List ℕ) → Output written number a a
 output-same written number a = record { long = refl; past = refl; refused = λ _. refl }
+
+-- two words are written
+record Two (x y : ℕ) (a a′ : List ℕ) : Type 0 where
+  first : getD (bigWords a′) 0 0 ≡ x
+  second : getD (bigWords a′) 1 0 ≡ y
+  output : Output 8 0 a a′
+
+two-words : {x y : ℕ} (a a₁ a₂ : List ℕ) → 8 ≤ length a → Fits w32 x → Fits w32 y → a₁ ≡ putBig a 0 x → a₂ ≡ putBig a₁ 1 y → Two x y a a₂
+two-words {x} {y} a a₁ a₂ h fx fy e₁ e₂ = record {
+  first =
+      rw put-two (getD-set-other (set (bigWords a) 0 x) 1 0 y 0 (omega arith) ∙ getD-set-same (bigWords a) 0 x 0 (omega (arith, big-words-length a)));
+  second = rw put-two (getD-set-same (set (bigWords a) 0 x) 1 y 0 (omega (arith, length-set (bigWords a) 0 x, big-words-length a)));
+  output = record { long = kept .long; past = past; refused = λ nz. absurd (nz refl) };
+}
+  where
+    put-two : bigWords a₂ ≡ set (set (bigWords a) 0 x) 1 y
+    put-two =
+        rw (e₂, e₁)
+        (put-big (putBig a 0 x) 1 y (omega (arith, put-big-length a 0 x)) (fy .fits)
+        ∙ ap (λ (w : List ℕ). set w 1 y) (put-big a 0 x (omega arith) (fx .fits)))
+
+    kept : Keeps 0 8 a a₂
+    kept =
+        rw (e₂, e₁)
+        (keeps-trans (keeps-wider (omega arith) (omega arith) (big-keeps a 0 x)) (keeps-wider (omega arith) (omega arith) (big-keeps (putBig a 0 x) 1 y)))
+
+    past : drop 8 a₂ ≡ drop 8 a
+    past =
+        ext-getD 0 (drop 8 a₂) (drop 8 a) (simp length-drop (omega (arith, kept .long)))
+        (λ i k. simp getD-drop (kept .above (8 + i) (omega arith)))
 
 -- ---- frame
 
@@ -40,47 +71,17 @@ frame-refused {s} {bytes} {a} {s′} {r} h nz p = record {
     same : r ≡ heardReply (r .number) a
     same = rw (ne-eqb (r .number) 0 nz) (λ i. record { number = r .number; marks = p .unchanged nz .1 i; departures = p .unchanged nz .2 i })
 
--- marks and departures are written
-module _ (a a₁ a₂ : List ℕ) (r : Reply) (h : frameAnswer ≤ length a) (fm : Fits w32 (r .marks)) (fd : Fits w32 (r .departures))
-    (e₁ : a₁ ≡ putBig a 0 (r .marks)) (e₂ : a₂ ≡ putBig a₁ 1 (r .departures)) where
-  put-two : bigWords a₂ ≡ set (set (bigWords a) 0 (r .marks)) 1 (r .departures)
-  put-two =
-      rw (e₂, e₁)
-      (put-big (putBig a 0 (r .marks)) 1 (r .departures) (omega (arith, put-big-length a 0 (r .marks))) (fd .fits)
-      ∙ ap (λ (w : List ℕ). set w 1 (r .departures)) (put-big a 0 (r .marks) (omega arith) (fm .fits)))
-
-  first-word : getD (bigWords a₂) 0 0 ≡ r .marks
-  first-word =
-      let l = big-words-length a in
-      rw put-two (getD-set-other (set (bigWords a) 0 (r .marks)) 1 0 (r .departures) 0 (omega arith) ∙ getD-set-same (bigWords a) 0 (r .marks) 0 (omega arith))
-
-  second-word : getD (bigWords a₂) 1 0 ≡ r .departures
-  second-word =
-      let l = big-words-length a in
-      rw put-two (getD-set-same (set (bigWords a) 0 (r .marks)) 1 (r .departures) 0 (omega (arith, length-set (bigWords a) 0 (r .marks))))
-
-  two-keep : Keeps 0 frameAnswer a a₂
-  two-keep =
-      rw (e₂, e₁)
-      (keeps-trans (keeps-wider (omega arith) (omega arith) (big-keeps a 0 (r .marks)))
-      (keeps-wider (omega arith) (omega arith) (big-keeps (putBig a 0 (r .marks)) 1 (r .departures))))
-
-  two-past : drop frameAnswer a₂ ≡ drop frameAnswer a
-  two-past =
-      ext-getD 0 (drop frameAnswer a₂) (drop frameAnswer a) (simp length-drop (omega (arith, two-keep .long)))
-      (λ i k. simp getD-drop (two-keep .above (frameAnswer + i) (omega arith)))
-
-  pub frame-accepted : {s bytes s′ : List ℕ} → r .number ≡ 0 → FramePost s bytes r s′ → FrameEntry s bytes a (r .number) s′ a₂
-  frame-accepted {s} {bytes} {s′} z p =
-      rw z
-      (record {
-        short = λ k. absurd (omega arith);
-        enough = λ _. subst (λ (x : Reply). FramePost s bytes x s′) same p;
-        output = record { long = two-keep .long; past = two-past; refused = λ nz. absurd (nz refl) };
-      })
-    where
-      same : r ≡ heardReply 0 a₂
-      same = λ i. record { number = z i; marks = sym first-word i; departures = sym second-word i }
+pub frame-accepted : {s bytes a a₁ a₂ s′ : List ℕ} (r : Reply) → frameAnswer ≤ length a → Fits w32 (r .marks) → Fits w32 (r .departures)
+    → a₁ ≡ putBig a 0 (r .marks) → a₂ ≡ putBig a₁ 1 (r .departures) → r .number ≡ 0 → FramePost s bytes r s′ → FrameEntry s bytes a (r .number) s′ a₂
+frame-accepted {s} {bytes} {a} {a₁} {a₂} {s′} r h fm fd e₁ e₂ z p =
+    let two = two-words a a₁ a₂ h fm fd e₁ e₂ in
+    let same : r ≡ heardReply 0 a₂ = λ i. record { number = z i; marks = sym (two .first) i; departures = sym (two .second) i } in
+    rw z
+    (record {
+      short = λ k. absurd (omega arith);
+      enough = λ _. subst (λ (x : Reply). FramePost s bytes x s′) same p;
+      output = two .output;
+    })
 
 -- ---- list
 
@@ -232,3 +233,31 @@ module _ (part a a₁ : List ℕ) (r : Searched) (h : searchAnswer ≤ length a)
     where
       same : r ≡ heardSearch 0 whole
       same = λ i. record { number = z i; list = heard-list part a₁ (r .list) lp ls lc e i; read = sym heard-read i }
+
+-- ---- closeness
+
+pub closeness-short : {s a : List ℕ} {serial n : ℕ} → length a < closenessAnswer → ClosenessEntry s serial n a 12 a
+closeness-short {a = a} h = record { short = λ _. refl; enough = λ k. absurd (omega arith); output = output-same closenessAnswer 12 a }
+
+pub closeness-refused : {s a : List ℕ} {serial n : ℕ} {r : Compared} → closenessAnswer ≤ length a → (r .number ≡ 0 → ⊥) → ClosenessPost s serial n r
+    → ClosenessEntry s serial n a (r .number) a
+closeness-refused {s} {a} {serial} {n} {r} h nz p =
+    let z = p .refused nz in
+    let same : r ≡ heardCloseness (r .number) a = rw (ne-eqb (r .number) 0 nz) (λ i. record { number = r .number; quotient = z .0 i; remainder = z .1 i }) in
+    record {
+      short = λ k. absurd (omega arith);
+      enough = λ _. subst (ClosenessPost s serial n) same p;
+      output = output-same closenessAnswer (r .number) a;
+    }
+
+pub closeness-accepted : {s a a₁ a₂ : List ℕ} {serial n : ℕ} (r : Compared) → closenessAnswer ≤ length a → Fits w32 (r .quotient) → Fits w32 (r .remainder)
+    → a₁ ≡ putBig a 0 (r .quotient) → a₂ ≡ putBig a₁ 1 (r .remainder) → r .number ≡ 0 → ClosenessPost s serial n r → ClosenessEntry s serial n a (r .number) a₂
+closeness-accepted {s} {a} {a₁} {a₂} {serial} {n} r h fq fr e₁ e₂ z p =
+    let two = two-words a a₁ a₂ h fq fr e₁ e₂ in
+    let same : r ≡ heardCloseness 0 a₂ = λ i. record { number = z i; quotient = sym (two .first) i; remainder = sym (two .second) i } in
+    rw z
+    (record {
+      short = λ k. absurd (omega arith);
+      enough = λ _. subst (ClosenessPost s serial n) same p;
+      output = two .output;
+    })

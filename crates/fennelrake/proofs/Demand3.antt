@@ -11,20 +11,21 @@ use Rattle.paper.specs.Layout.{stateLength}
 use Rattle.paper.specs.Log.{Log, Call, fresh, after, replay, judgeList, listed}
 use Rattle.paper.specs.Rank.{lines}
 use Rattle.paper.specs.Search.{judgeSearch, found}
+use Rattle.paper.specs.Closeness.{judgeCloseness, closenessIn}
 use Rattle.paper.specs.Demand3.{replyTo, markedBy, Answered}
 use Rattle.paper.proofs.MarkLaws.{answered-by-log}
 use Rattle.memory.specs.Words.{words}
 use Rattle.rank.specs.Listing as Listing
 use Rattle.rank.specs.Listing.{linesOf, TidyLines}
 use Rattle.engine.specs.Represents.{Represents, keeping}
-use Rattle.engine.specs.Post.{replyOf, StartPost}
+use Rattle.engine.specs.Post.{replyOf, closeOf, StartPost}
 use Rattle.engine.proofs.RepresentsLaws.{all-settled}
 use Rattle.engine.proofs.Demand3.{begun, begun-long}
-use Rattle.fennelrake.specs.Entry.{frameAnswer, listAnswer, searchAnswer, heardReply, heardListing, heardSearch, FrameEntry, ListEntry, SearchEntry}
+use Rattle.fennelrake.specs.Entry.{frameAnswer, listAnswer, searchAnswer, closenessAnswer, heardReply, heardListing, heardSearch, heardCloseness, FrameEntry, ListEntry, SearchEntry, ClosenessEntry}
 use Rattle.fennelrake.specs.Demand3.{callOf, Calls, logOf, Demand3}
 use Rattle.fennelrake.specs.Demand3.Calls.{none-left, handed}
 use Rattle.fennelrake.proofs.AnswerLaws.{none-tidy}
-use Rattle.fennelrake.proofs.LentLaws.{after-enough, reply-enough, marked-enough, after-short, reply-short, list-enough, lines-enough, list-short, lines-short, search-enough, search-short}
+use Rattle.fennelrake.proofs.LentLaws.{after-enough, reply-enough, marked-enough, after-short, reply-short, list-enough, lines-enough, list-short, lines-short, search-enough, search-short, compare-enough, compare-short, closeness-enough, closeness-short}
 use Rattle.fennelrake.proofs.LentLaws as Lent
 
 -- enough bytes, or too few
@@ -138,6 +139,28 @@ module _ (log : Log) (s bytes a a′ : List ℕ) (r : ℕ) (is : Represents log 
   searched : HeardSearch
   searched = by-length searchAnswer (length a) found-enough found-short
 
+-- ---- a closeness
+
+module _ (log : Log) (s : List ℕ) (serial n : ℕ) (a a′ : List ℕ) (r : ℕ) (is : Represents log (words s)) (l : length s ≡ stateLength)
+    (p : ClosenessEntry s serial n a r a′) where
+  abbrev HeardCloseness : Type 0
+  HeardCloseness =
+      (r ≡ judgeCloseness closenessAnswer log stateLength (length a) serial n)
+      × (closeOf (heardCloseness r a′) ≡ closenessIn closenessAnswer log stateLength (length a) serial n)
+
+  close-enough : closenessAnswer ≤ length a → HeardCloseness
+  close-enough h =
+      let t = p .enough h .right log is l in
+      rw (compare-enough closenessAnswer log stateLength (length a) serial n h, closeness-enough closenessAnswer log stateLength (length a) serial n h, ← l) t
+
+  close-short : length a < closenessAnswer → HeardCloseness
+  close-short h =
+      rw (p .short h, compare-short closenessAnswer log stateLength (length a) serial n h, closeness-short closenessAnswer log stateLength (length a) serial n h)
+      (refl, refl)
+
+  compared : HeardCloseness
+  compared = by-length closenessAnswer (length a) close-enough close-short
+
 -- ---- all
 
 module _ (N T : ℕ) (s₀ s : List ℕ) (n : ℕ) (start : StartPost N T s₀ n s) (ok : n ≡ 0) where
@@ -156,6 +179,7 @@ module _ (N T : ℕ) (s₀ s : List ℕ) (n : ℕ) (start : StartPost N T s₀ n
             let x = p .right (logOf N T calls) (h .0) (h .1) in
             rw (← (h .1)) (x .0, x .1, λ z. (p .refused z .1, p .refused z .0));
         searches = λ bytes a a′ r p. searched (logOf N T calls) s′ bytes a a′ r (h .0) (h .1) p;
+        closenesses = λ serial q a a′ r p. compared (logOf N T calls) s′ serial q a a′ r (h .0) (h .1) p;
         last = λ first bytes a a′ s₁ r e before p.
             let b = left before in
             step (logOf N T first) s₁ bytes a r s′ a′ (b .0) (b .1) p .answered;

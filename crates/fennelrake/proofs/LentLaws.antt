@@ -9,8 +9,9 @@ use borrow.Author.Tests.{le-leb, lt-leb}
 use Rattle.paper.specs.Frame.{shape}
 use Rattle.paper.specs.Rank.{Line}
 use Rattle.paper.specs.Layout.{stateLength}
-use Rattle.paper.specs.Log.{Log, Call, lent, judgeShape, judge, acceptShape, after, departuresShape, departures, inUse, queryAt, judgeList, listOf, listed, seen}
+use Rattle.paper.specs.Log.{Log, Call, lent, judgeShape, judge, acceptShape, after, departuresShape, departures, inForceNow, hasSerial, inUse, queryAt, judgeList, listOf, listed, seen}
 use Rattle.paper.specs.Search.{Outcome, asked, refusalOf, queryIn, nothing, foundFor, judgeSearch, found}
+use Rattle.paper.specs.Closeness.{Closeness, pairsOf, judgeCloseness, unasked, closenessTo, closenessIn}
 use Rattle.paper.specs.Demand3.{Keeping, Reply, marksShape, replyTo, markedShape, markedBy}
 
 module _ (needed state output : ℕ) where
@@ -121,3 +122,28 @@ module _ (needed : ℕ) (log : Log) (bytes : List ℕ) (state output : ℕ) wher
   pub found-short : output < needed → found needed log bytes state output ≡ nothing
   unfolding found
   found-short h = ap foundBy (search-short h)
+
+-- ---- a closeness
+
+module _ (needed : ℕ) (log : Log) (state output serial n : ℕ) where
+  abbrev compareBy : Bool → ℕ
+  compareBy t = cond t (cond (hasSerial serial (inForceNow log)) (cond (inUse (queryAt log n)) 0 10) 13) 12
+
+  abbrev closenessBy : ℕ → Closeness
+  closenessBy r = cond (eqb r 0) (closenessTo (queryAt log n) (pairsOf serial (inForceNow log))) unasked
+
+  pub compare-enough : needed ≤ output → judgeCloseness needed log state output serial n ≡ judgeCloseness 0 log state 0 serial n
+  unfolding judgeCloseness
+  compare-enough h = ap compareBy (lent-enough needed state output h)
+
+  pub closeness-enough : needed ≤ output → closenessIn needed log state output serial n ≡ closenessIn 0 log state 0 serial n
+  unfolding closenessIn
+  closeness-enough h = ap closenessBy (compare-enough h)
+
+  pub compare-short : output < needed → judgeCloseness needed log state output serial n ≡ 12
+  unfolding judgeCloseness
+  compare-short h = ap compareBy (lent-short needed state output h)
+
+  pub closeness-short : output < needed → closenessIn needed log state output serial n ≡ unasked
+  unfolding closenessIn
+  closeness-short h = ap closenessBy (compare-short h)

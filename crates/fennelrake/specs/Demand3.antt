@@ -8,12 +8,13 @@ use Rattle.paper.specs.Layout.{stateLength}
 use Rattle.paper.specs.Log.{Log, Call, fresh, replay, judgeList, listed, judgePostings, posted}
 use Rattle.paper.specs.Rank.{lines}
 use Rattle.paper.specs.Search.{judgeSearch, found}
+use Rattle.paper.specs.Closeness.{judgeCloseness, closenessIn}
 use Rattle.paper.specs.Demand3.{AllSettled, Answered}
 use Rattle.memory.specs.Words.{words}
 use Rattle.rank.specs.Listing.{linesOf, TidyLines}
 use Rattle.engine.specs.Represents.{keeping}
-use Rattle.engine.specs.Post.{replyOf, postedInto, PostingsPost}
-use Rattle.fennelrake.specs.Entry.{frameAnswer, listAnswer, searchAnswer, heardReply, heardListing, heardSearch, heardFound, FrameEntry, ListEntry, SearchEntry}
+use Rattle.engine.specs.Post.{replyOf, postedInto, PostingsPost, closeOf}
+use Rattle.fennelrake.specs.Entry.{frameAnswer, listAnswer, searchAnswer, closenessAnswer, heardReply, heardListing, heardSearch, heardCloseness, heardFound, FrameEntry, ListEntry, SearchEntry, ClosenessEntry}
 
 -- what the paper log is fed: the bytes and the lengths lent
 abbrev pub callOf : (s bytes a : List ℕ) → Call
@@ -47,6 +48,10 @@ pub record Demand3 (N T : ℕ) (s : List ℕ) (calls : List Call) (s′ : List �
       × (linesOf (heardSearch r a′ .list) ≡ lines (found searchAnswer (logOf N T calls) bytes stateLength (length a) .list))
       × (heardSearch r a′ .read ≡ found searchAnswer (logOf N T calls) bytes stateLength (length a) .read)
       × TidyLines (heardSearch r a′ .list)
+  -- a closeness: "the quotient and exact remainder of 1000 × s² by a × b", of a message in force and a registered query; refused, nothing
+  pub closenesses : (serial n : ℕ) (a a′ : List ℕ) (r : ℕ) → ClosenessEntry s′ serial n a r a′
+      → (r ≡ judgeCloseness closenessAnswer (logOf N T calls) stateLength (length a) serial n)
+      × (closeOf (heardCloseness r a′) ≡ closenessIn closenessAnswer (logOf N T calls) stateLength (length a) serial n)
   -- "A query registered before and after the last frame is marked by it exactly when ..; unmarked, its thresholds, candidates and list are as they
   -- were"
   pub last : (first : List Call) (bytes a a′ s₁ : List ℕ) (r : ℕ) → calls ≡ first ++ (callOf s₁ bytes a ∷ []) → Calls s first s₁

@@ -14,7 +14,8 @@ use Rattle.engine.specs.declared.Reply.{Reply}
 use Rattle.engine.specs.declared.Listing.{Listing}
 use Rattle.engine.specs.declared.Found.{Found}
 use Rattle.engine.specs.declared.Searched.{Searched}
-use Rattle.engine.specs.Post.{FramePost, ListPost, SearchPost}
+use Rattle.engine.specs.declared.Compared.{Compared}
+use Rattle.engine.specs.Post.{FramePost, ListPost, SearchPost, ClosenessPost}
 
 -- how many bytes the answers take, in words of four: marks and departures; the number of entries, then serials and scores
 abbrev pub frameAnswer : ℕ
@@ -79,6 +80,24 @@ pub record SearchEntry (s bytes a : List ℕ) (r : ℕ) (a′ : List ℕ) : Type
   pub short : length a < searchAnswer → r ≡ 12
   pub enough : searchAnswer ≤ length a → SearchPost s bytes (heardSearch r a′)
   pub output : Output searchAnswer r a a′
+
+-- ---- closeness
+
+-- quotient and remainder
+abbrev pub closenessAnswer : ℕ
+closenessAnswer = 4 * 2
+
+abbrev pub heardCloseness : ℕ → List ℕ → Compared
+heardCloseness r a = record {
+  number = r;
+  quotient = cond (eqb r 0) (getD (bigWords a) 0 0) 0;
+  remainder = cond (eqb r 0) (getD (bigWords a) 1 0) 0;
+}
+
+pub record ClosenessEntry (s : List ℕ) (serial n : ℕ) (a : List ℕ) (r : ℕ) (a′ : List ℕ) : Type 0 where
+  pub short : length a < closenessAnswer → r ≡ 12
+  pub enough : closenessAnswer ≤ length a → ClosenessPost s serial n (heardCloseness r a′)
+  pub output : Output closenessAnswer r a a′
 
 -- ---- postings
 

@@ -9,7 +9,7 @@ use Rattle.paper.specs.Frame.Shape.{accepted}
 use Rattle.paper.specs.Window.{mostMessages}
 use Rattle.paper.specs.Layout.{stateLength}
 use Rattle.paper.specs.Log.{Log, postingLength, posted}
-use Rattle.fennelrake.specs.Entry.{frameAnswer, listAnswer, searchAnswer}
+use Rattle.fennelrake.specs.Entry.{frameAnswer, listAnswer, searchAnswer, closenessAnswer}
 
 -- room for every frame that is accepted: a long message of the most pairs is the longest
 abbrev pub frameRoom : ℕ
@@ -22,4 +22,4 @@ postingsRoom = postingLength * mostMessages
 pub record Sizes : Type 0 where
   pub frames : (bytes : List ℕ) (f : Frame) → Bytes bytes → shape bytes ≡ accepted f → length bytes ≤ frameRoom
   pub postings : (log : Log) (t : ℕ) → log .N ≤ mostMessages → postingLength * length (posted log t) ≤ postingsRoom
-  pub within : stateLength + frameRoom + frameAnswer + listAnswer + searchAnswer + postingsRoom ≤ 65536
+  pub within : stateLength + frameRoom + frameAnswer + listAnswer + searchAnswer + closenessAnswer + postingsRoom ≤ 65536

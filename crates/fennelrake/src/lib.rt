@@ -8,7 +8,7 @@ ghost use Rattle.paper.specs.Write.{fromFields};
 ghost use Rattle.memory.specs.Words.{bigWords};
 ghost use Rattle.frame.specs.Write.{fields, WritePost};
 ghost use Rattle.engine.specs.Post.{StartPost, PostingsPost};
-ghost use Rattle.fennelrake.specs.Entry.{listAnswer, FrameEntry, ListEntry, SearchEntry, termsOf, heardFound, heardWriting};
+ghost use Rattle.fennelrake.specs.Entry.{listAnswer, FrameEntry, ListEntry, SearchEntry, ClosenessEntry, termsOf, heardFound, heardWriting};
 use paper::MOST_LISTED;
 use paper::MOST_PAIRS;
 
@@ -22,6 +22,8 @@ const LIST_SCORES: usize = 1 + MOST_LISTED;
 const SEARCH_ANSWER: usize = LIST_ANSWER + 4;
 
 const SEARCH_READ: usize = 1 + 2 * MOST_LISTED;
+
+const CLOSENESS_ANSWER: usize = 4 * 2;
 
 #[no_mangle]
 pub extern "C" fn fennelrake_start(state: &mut [u8], capacity: u32, life: u32) -> u32
@@ -103,6 +105,28 @@ pub extern "C" fn fennelrake_search(state: &[u8], bytes: &[u8], answer: &mut [u8
         scores,
     );
     searched.number
+}
+
+// The answer: quotient and remainder, four bytes each.
+#[no_mangle]
+pub extern "C" fn fennelrake_closeness(
+    state: &[u8],
+    serial: u32,
+    number: u32,
+    answer: &mut [u8],
+) -> u32
+    ensures { λ r. ⌜ ClosenessEntry (now (state .entry)) serial number (now (answer .entry)) r (now (answer .exit)) × (now (state .exit) ≡ now (state .entry)) ⌝ }
+{
+    if answer.len() < CLOSENESS_ANSWER {
+        return 12;
+    }
+    let compared = engine::closeness(state, serial, number);
+    if compared.number != 0 {
+        return compared.number;
+    }
+    memory::put_big(answer, 0, compared.quotient);
+    memory::put_big(answer, 1, compared.remainder);
+    compared.number
 }
 
 // The postings of a term, into out: serial and impact of each, four bytes each. Number times 2 to the 32, and how many there are.

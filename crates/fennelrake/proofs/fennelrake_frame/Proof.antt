@@ -18,7 +18,7 @@ returns-3 c =
     let departures = c .before .before in
     let marks = departures .before .before .before .before in
     let framed = marks .before .before .before .before .before .before in
-    frame-accepted _ _ _ (framed .frame .result) (omega arith) (search needs) (search needs) (marks .put-big .ensures) (departures .put-big2 .ensures)
+    frame-accepted (framed .frame .result) (omega arith) (search needs) (search needs) (marks .put-big .ensures) (departures .put-big2 .ensures)
     (omega arith) (framed .frame .ensures)
 
 pub fennelrake-frame-spec : {M : Type 1} → statement M
