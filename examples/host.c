@@ -4,16 +4,17 @@
  *   cc -std=c99 host.c $(pkg-config --cflags --libs fennelrake) -o host && ./host
  *
  * The passage is C10 of the document that describes the ranker: at most 3 messages in force, each up to the age of 100 seconds. Then a message is
- * cancelled and sent again, mended; of messages with equal scores a vital one stands first; and a long message has more terms than another could.
- * The lines printed are the document's:
+ * cancelled and sent again, mended; of messages with equal scores a vital one stands first; a long message has more terms than another could; and the
+ * last message is as close to the query as can be. The lines printed are the document's:
  *
  *   ordinal, number, marks, departures      for each frame
  *   Q, query, entries, serial and score ..  after it, for each marked query that is still registered
  *
- * and two more after each frame, of what a training board shows beside the lists:
+ * and more after each frame, of what a training board shows beside the lists:
  *
  *   P, term, postings, serial and impact ..         for term 5
  *   S, postings read, entries, serial and score ..  for a query that isn't registered, of terms 5 and 40
+ *   C, query, serial, closeness in percent          for each message in the list of query 0
  */
 #include <fennelrake.h>
 
@@ -51,6 +52,8 @@ static const struct fields passage[] = {
     {FENNELRAKE_LONG_MESSAGE, 124, 7, FENNELRAKE_ROUTINE, 0, 0, 17,
      {5, 9, 60, 61, 62, 63, 64, 65, 66, 67, 68, 69, 70, 71, 72, 73, 74},
      {8, 16, 1, 1, 1, 1, 1, 1, 1, 1, 1, 1, 1, 1, 1, 1, 1}},
+    /* the query's terms and no others, with counts in proportion to its weights */
+    {FENNELRAKE_MESSAGE, 125, 8, 0, 0, 0, 2, {5, 9}, {3, 6}},
 };
 
 /* What a pilot asks for once, the best 2 messages: term 5 with weight 1, term 40 with weight 2. Time and number aren't looked at. */
@@ -121,6 +124,33 @@ static void print_search(const uint8_t *state, const struct fields *query)
     print_entries(found);
 }
 
+enum { PERCENT_SIZE = 16 }; /* enough for any number of tenths */
+
+/* The printed form of a closeness, which is in tenths of a percent: 968 is "96.8 %". As it's cut, only a message in proportion to the query is
+   "100.0 %". */
+static void put_percent(uint32_t closeness, char out[PERCENT_SIZE])
+{
+    snprintf(out, PERCENT_SIZE, "%u.%u %%", closeness / 10, closeness % 10);
+}
+
+static void print_closeness(const uint8_t *state, uint32_t query)
+{
+    uint8_t list[FENNELRAKE_LIST_ANSWER_SIZE] = {0};
+    size_t i;
+
+    /* a refusal lists nothing, by the first value of the answer; and what is listed is in force, so that its closeness isn't refused */
+    fennelrake_list(state, FENNELRAKE_STATE_SIZE, query, list, sizeof list);
+    for (i = 0; i < fennelrake_list_count(list); i++) {
+        uint8_t answer[FENNELRAKE_CLOSENESS_ANSWER_SIZE] = {0};
+        uint32_t serial = fennelrake_list_serial(list, i);
+        char percent[PERCENT_SIZE];
+
+        fennelrake_closeness(state, FENNELRAKE_STATE_SIZE, serial, query, answer, sizeof answer);
+        put_percent(fennelrake_closeness_quotient(answer), percent);
+        printf("C %u %u %s\n", query, serial, percent);
+    }
+}
+
 int main(void)
 {
     /* One memory is one engine. It belongs to the engine until the host frees it: read it by the calls alone, and don't write it. */
@@ -152,6 +182,7 @@ int main(void)
                 print_list(state, q);
         print_postings(state, 5);
         print_search(state, &question);
+        print_closeness(state, 0);
     }
     free(state);
     return 0;

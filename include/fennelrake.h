@@ -3,8 +3,9 @@
  *
  * The host lends memory. An engine in it takes frames (messages, cancellations of messages, clock ticks, registrations and drops of queries) and
  * keeps, for each registered query, the ranked list of the best messages in force; a query that isn't worth registering is asked once, as a search.
- * Nothing is allocated, no file is read or written, and the archive keeps no memory of its own between calls: one memory is one engine. Forty boards
- * are forty memories, and calls on different memories may run at the same time.
+ * How close a message in force is to a registered query is told for print, in tenths of a percent. Nothing is allocated, no file is read or written,
+ * and the archive keeps no memory of its own between calls: one memory is one engine. Forty boards are forty memories, and calls on different memories
+ * may run at the same time.
  *
  * In every call a slice is a pointer to bytes and their number. It may stand at any address. Where the number is 0 the pointer may be null.
  * In what a call writes into lent output, a number takes four bytes, the most significant first; the readers at the end of this file take them out.
@@ -36,14 +37,15 @@ extern "C" {
 
 /* ---- sizes in bytes */
 
-#define FENNELRAKE_STATE_SIZE 43680       /* the state memory: exactly so long */
-#define FENNELRAKE_FRAME_ANSWER_SIZE 8    /* what fennelrake_frame writes */
-#define FENNELRAKE_LIST_ANSWER_SIZE 132   /* what fennelrake_list writes */
-#define FENNELRAKE_SEARCH_ANSWER_SIZE 136 /* what fennelrake_search writes */
-#define FENNELRAKE_POSTING_SIZE 8         /* what fennelrake_postings writes for each posting */
-#define FENNELRAKE_MOST_POSTINGS 256      /* no term has more postings */
-#define FENNELRAKE_POSTINGS_SIZE 2048     /* enough for the postings of any term */
-#define FENNELRAKE_LONGEST_FRAME 80       /* enough for fennelrake_write, whatever the frame */
+#define FENNELRAKE_STATE_SIZE 43680        /* the state memory: exactly so long */
+#define FENNELRAKE_FRAME_ANSWER_SIZE 8     /* what fennelrake_frame writes */
+#define FENNELRAKE_LIST_ANSWER_SIZE 132    /* what fennelrake_list writes */
+#define FENNELRAKE_SEARCH_ANSWER_SIZE 136  /* what fennelrake_search writes */
+#define FENNELRAKE_CLOSENESS_ANSWER_SIZE 8 /* what fennelrake_closeness writes */
+#define FENNELRAKE_POSTING_SIZE 8          /* what fennelrake_postings writes for each posting */
+#define FENNELRAKE_MOST_POSTINGS 256       /* no term has more postings */
+#define FENNELRAKE_POSTINGS_SIZE 2048      /* enough for the postings of any term */
+#define FENNELRAKE_LONGEST_FRAME 80        /* enough for fennelrake_write, whatever the frame */
 
 /* ---- ranges */
 
@@ -59,6 +61,7 @@ extern "C" {
 #define FENNELRAKE_MOST_QUERY_TERMS 8     /* a query has 1 to this many pairs of term and weight */
 #define FENNELRAKE_MOST_WEIGHT 15         /* weights are 1 to this */
 #define FENNELRAKE_TOP_IMPACT 2000        /* impacts are 0 to this */
+#define FENNELRAKE_TOP_CLOSENESS 1000     /* closeness, in tenths of a percent, is 0 to this */
 
 /* ---- kinds of frame */
 
@@ -93,10 +96,10 @@ enum {
     FENNELRAKE_REFUSED_TIME = 7,          /* a time below the clock */
     FENNELRAKE_REFUSED_SERIAL = 8,        /* a message with the serial of one in force */
     FENNELRAKE_REFUSED_IN_USE = 9,        /* a registration under a number in use */
-    FENNELRAKE_REFUSED_NOT_IN_USE = 10,   /* a drop or reading of a number not in use, numbers above 31 included */
+    FENNELRAKE_REFUSED_NOT_IN_USE = 10,   /* a drop, a list or a closeness of a number not in use, numbers above 31 included */
     FENNELRAKE_REFUSED_START = 11,        /* N or T outside its range */
     FENNELRAKE_REFUSED_MEMORY = 12,       /* state memory not of its length, or output shorter than needed */
-    FENNELRAKE_REFUSED_NOT_IN_FORCE = 13, /* a cancellation with a serial that no message in force has */
+    FENNELRAKE_REFUSED_NOT_IN_FORCE = 13, /* a cancellation or a closeness with a serial that no message in force has */
     FENNELRAKE_REFUSED_URGENCY = 14       /* an urgency of 3; in the writer any above 2 */
 };
 
@@ -208,6 +211,23 @@ uint32_t fennelrake_search(const uint8_t *state, size_t state_length, const uint
                            uint8_t *answer, size_t answer_length);
 
 /*
+ * Reads how close the message `serial` is to query `number`: their squared cosine in tenths of a percent. The message is one in force at the engine's
+ * clock. With s the sum of weight times count over the terms that both have, a the sum of the message's counts squared, and b that of the query's
+ * weights squared, it is 1000 * s * s divided by a * b: the quotient, which is cut and never rounded up, and the exact remainder.
+ *
+ * The quotient is at most FENNELRAKE_TOP_CLOSENESS. It is that, with remainder 0, exactly where counts and weights are in proportion and neither side
+ * has a term that the other lacks. Both are 0 exactly where no term is shared. The remainder is below a * b, which is at most 3745440000.
+ *
+ * Writes FENNELRAKE_CLOSENESS_ANSWER_SIZE bytes: quotient and remainder. The state isn't written.
+ *
+ * Refusals, in this order:
+ *   12  state_length is not FENNELRAKE_STATE_SIZE, or answer_length is below FENNELRAKE_CLOSENESS_ANSWER_SIZE
+ *   13  no message in force has this serial: it has aged, left for N, is cancelled, never came, or is above 1048575
+ *   10  no query is registered under this number, or it is above 31
+ */
+uint32_t fennelrake_closeness(const uint8_t *state, size_t state_length, uint32_t serial, uint32_t number, uint8_t *answer, size_t answer_length);
+
+/*
  * Writes the frame with these fields into out. Only the fields of the kind are looked at:
  *   FENNELRAKE_MESSAGE         time, serial, pairs, terms, amounts (counts)
  *   FENNELRAKE_TICK            time
@@ -294,6 +314,17 @@ static inline uint32_t fennelrake_list_score(const uint8_t *answer, size_t i)
 static inline uint32_t fennelrake_search_read(const uint8_t *answer)
 {
     return fennelrake_word(answer + FENNELRAKE_LIST_ANSWER_SIZE);
+}
+
+/* The answer of fennelrake_closeness: the closeness in tenths of a percent, and what the division left. */
+static inline uint32_t fennelrake_closeness_quotient(const uint8_t *answer)
+{
+    return fennelrake_word(answer);
+}
+
+static inline uint32_t fennelrake_closeness_remainder(const uint8_t *answer)
+{
+    return fennelrake_word(answer + 4);
 }
 
 /* The output of fennelrake_postings: serial and impact of posting i, the first being posting 0, for i below their number. */

@@ -45,8 +45,19 @@ enum { PLENTY = 40 };
 static uint8_t terms[2 * PLENTY], amounts[PLENTY];
 static uint32_t urgency = UINT32_MAX;
 
-static uint8_t *state, *frame, *reply, *list, *postings, *found;
+static uint8_t *state, *before, *frame, *reply, *list, *postings, *found, *closeness;
 static size_t frame_length;
+
+/* Makes the terms those from one on, with a first amount and others of one value. */
+static void lay(uint16_t from, uint8_t first, uint8_t other)
+{
+    unsigned i;
+
+    for (i = 0; i < PLENTY; i++)
+        fennelrake_put_term(terms, i, (uint16_t)(from + i));
+    memset(amounts, other, sizeof amounts);
+    amounts[0] = first;
+}
 
 /* Writes a frame with the terms, amounts and urgency above. Returns the writer's number. */
 static uint32_t written(uint32_t kind, uint32_t time, uint32_t serial, uint32_t number, uint32_t k, uint32_t pairs)
@@ -58,21 +69,29 @@ static uint32_t written(uint32_t kind, uint32_t time, uint32_t serial, uint32_t 
     return fennelrake_number(r);
 }
 
-/* Hands over the frame written last; a refusal must leave state and answer alone. */
+/* Before a call: notes the state, and makes the answer one that nothing was written to. */
+static void ready(uint8_t *answer, size_t length)
+{
+    memcpy(before, state, FENNELRAKE_STATE_SIZE);
+    memset(answer, 0xa5, length);
+}
+
+/* After it: a refusal must leave state and answer alone, and a call that only reads the state in any case. Returns the call's number. */
+static uint32_t judged(uint32_t number, int reads, const uint8_t *answer, size_t length)
+{
+    if (reads || number != FENNELRAKE_ACCEPTED)
+        EXPECT(memcmp(before, state, FENNELRAKE_STATE_SIZE) == 0, 1);
+    if (number != FENNELRAKE_ACCEPTED)
+        EXPECT(untouched(answer, length), 1);
+    return number;
+}
+
+/* Hands over the frame written last. */
 static uint32_t handed(void)
 {
-    uint8_t *before = lent(FENNELRAKE_STATE_SIZE);
-    uint32_t number;
-
-    memcpy(before, state, FENNELRAKE_STATE_SIZE);
-    memset(reply, 0xa5, FENNELRAKE_FRAME_ANSWER_SIZE);
-    number = fennelrake_frame(state, FENNELRAKE_STATE_SIZE, frame, frame_length, reply, FENNELRAKE_FRAME_ANSWER_SIZE);
-    if (number != FENNELRAKE_ACCEPTED) {
-        EXPECT(memcmp(before, state, FENNELRAKE_STATE_SIZE) == 0, 1);
-        EXPECT(untouched(reply, FENNELRAKE_FRAME_ANSWER_SIZE), 1);
-    }
-    free(before);
-    return number;
+    ready(reply, FENNELRAKE_FRAME_ANSWER_SIZE);
+    return judged(fennelrake_frame(state, FENNELRAKE_STATE_SIZE, frame, frame_length, reply, FENNELRAKE_FRAME_ANSWER_SIZE), 0, reply,
+                  FENNELRAKE_FRAME_ANSWER_SIZE);
 }
 
 /* Writes a frame and hands it over. */
@@ -82,20 +101,20 @@ static uint32_t fed(uint32_t kind, uint32_t time, uint32_t serial, uint32_t numb
     return handed();
 }
 
-/* Searches with the frame written last: only the answer may change, and nothing by a refusal. */
+/* Searches with the frame written last. */
 static uint32_t searched(void)
 {
-    uint8_t *before = lent(FENNELRAKE_STATE_SIZE);
-    uint32_t number;
+    ready(found, FENNELRAKE_SEARCH_ANSWER_SIZE);
+    return judged(fennelrake_search(state, FENNELRAKE_STATE_SIZE, frame, frame_length, found, FENNELRAKE_SEARCH_ANSWER_SIZE), 1, found,
+                  FENNELRAKE_SEARCH_ANSWER_SIZE);
+}
 
-    memcpy(before, state, FENNELRAKE_STATE_SIZE);
-    memset(found, 0xa5, FENNELRAKE_SEARCH_ANSWER_SIZE);
-    number = fennelrake_search(state, FENNELRAKE_STATE_SIZE, frame, frame_length, found, FENNELRAKE_SEARCH_ANSWER_SIZE);
-    EXPECT(memcmp(before, state, FENNELRAKE_STATE_SIZE) == 0, 1);
-    if (number != FENNELRAKE_ACCEPTED)
-        EXPECT(untouched(found, FENNELRAKE_SEARCH_ANSWER_SIZE), 1);
-    free(before);
-    return number;
+/* Reads a closeness. */
+static uint32_t compared(uint32_t serial, uint32_t number)
+{
+    ready(closeness, FENNELRAKE_CLOSENESS_ANSWER_SIZE);
+    return judged(fennelrake_closeness(state, FENNELRAKE_STATE_SIZE, serial, number, closeness, FENNELRAKE_CLOSENESS_ANSWER_SIZE), 1, closeness,
+                  FENNELRAKE_CLOSENESS_ANSWER_SIZE);
 }
 
 static void words(void)
@@ -294,8 +313,7 @@ static void impacts(void)
     EXPECT(fennelrake_start(state, FENNELRAKE_STATE_SIZE, 1, 1000), FENNELRAKE_ACCEPTED);
     urgency = FENNELRAKE_ROUTINE;
     for (i = 0; i < sizeof rows / sizeof rows[0]; i++) {
-        memset(amounts, rows[i].other, sizeof amounts);
-        amounts[0] = rows[i].first;
+        lay(0, rows[i].first, rows[i].other);
         EXPECT(fed(rows[i].kind, 0, i, 0, 0, rows[i].pairs), FENNELRAKE_ACCEPTED);
         for (term = 0; term < rows[i].pairs; term++) {
             EXPECT(fennelrake_postings(state, FENNELRAKE_STATE_SIZE, term, postings, FENNELRAKE_POSTING_SIZE), 1);
@@ -304,7 +322,7 @@ static void impacts(void)
         }
         EXPECT(fennelrake_postings(state, FENNELRAKE_STATE_SIZE, term, NULL, 0), 0);
     }
-    memset(amounts, 1, sizeof amounts);
+    lay(0, 1, 1);
 }
 
 /* As many messages as can be in force, each with a term of two bytes of its own value; a query with the longest list. */
@@ -465,20 +483,122 @@ static void searches(void)
     amounts[1] = 1;
 }
 
+/* Expects a closeness that is accepted, of these numbers. */
+static void closeness_is(uint32_t serial, uint32_t number, uint32_t quotient, uint32_t remainder)
+{
+    EXPECT(compared(serial, number), FENNELRAKE_ACCEPTED);
+    EXPECT(fennelrake_closeness_quotient(closeness), quotient);
+    EXPECT(fennelrake_closeness_remainder(closeness), remainder);
+}
+
+/* A message whose terms are those from 0 on, and a query whose terms are those from one on: of both how many, the first amount and every other. */
+static void closeness_values(void)
+{
+    static const struct {
+        uint32_t pairs;
+        uint8_t count, counts;
+        uint16_t from;
+        uint32_t asked;
+        uint8_t weight, weights;
+        uint32_t quotient, remainder;
+    } rows[] = {
+        {2, 3, 4, 0, 2, 1, 2, 968, 0},
+        {2, 2, 1, 0, 2, 1, 2, 640, 0},
+        /* in proportion */
+        {1, 255, 0, 0, 1, 15, 0, FENNELRAKE_TOP_CLOSENESS, 0},
+        {2, 255, 17, 0, 2, 15, 1, FENNELRAKE_TOP_CLOSENESS, 0},
+        {8, 17, 255, 0, 8, 1, 15, FENNELRAKE_TOP_CLOSENESS, 0},
+        /* nearly so, which is cut; and in proportion but for a term that one side lacks */
+        {8, 255, 254, 0, 8, 15, 15, FENNELRAKE_TOP_CLOSENESS - 1, 928371600},
+        {2, 1, 1, 0, 1, 1, 0, 500, 0},
+        {1, 1, 0, 0, 2, 1, 1, 500, 0},
+        /* the last term of one is the first of the other, in a long message and in none; hardly anything shared */
+        {17, 1, 1, 16, 8, 1, 1, 7, 48},
+        {16, 1, 1, 16, 8, 1, 1, 0, 0},
+        {32, 1, 255, 0, 1, 1, 0, 0, 1000},
+        /* the greatest divisor, and a remainder that takes all four bytes */
+        {32, 255, 255, 0, 8, 15, 15, 250, 0},
+        {32, 254, 255, 0, 8, 15, 15, 249, UINT32_C(3055798800)},
+    };
+    uint32_t i;
+
+    urgency = FENNELRAKE_VITAL;
+    for (i = 0; i < sizeof rows / sizeof rows[0]; i++) {
+        EXPECT(fennelrake_start(state, FENNELRAKE_STATE_SIZE, 1, 1000), FENNELRAKE_ACCEPTED);
+        lay(rows[i].from, rows[i].weight, rows[i].weights);
+        EXPECT(fed(FENNELRAKE_REGISTER, 0, 0, FENNELRAKE_QUERIES - 1, 1, rows[i].asked), FENNELRAKE_ACCEPTED);
+        lay(0, rows[i].count, rows[i].counts);
+        EXPECT(fed(FENNELRAKE_LONG_MESSAGE, 0, FENNELRAKE_SERIALS - 1, 0, 0, rows[i].pairs), FENNELRAKE_ACCEPTED);
+        closeness_is(FENNELRAKE_SERIALS - 1, FENNELRAKE_QUERIES - 1, rows[i].quotient, rows[i].remainder);
+    }
+}
+
+/* Messages come and go beside query 5, which has terms 0 and 1; message i has terms 0 to i - 1 and comes at 10 times i, with four in force at most. */
+static void closeness_refusals(void)
+{
+    static const uint32_t unused[] = {0, 4, FENNELRAKE_QUERIES - 1, FENNELRAKE_QUERIES, FENNELRAKE_QUERIES + 5, UINT32_MAX};
+    static const uint32_t unknown[] = {0, 1, 6, FENNELRAKE_SERIALS, FENNELRAKE_SERIALS + 4, 4 * FENNELRAKE_SERIALS + 4, UINT32_MAX};
+    uint32_t i;
+
+    EXPECT(fennelrake_start(state, FENNELRAKE_STATE_SIZE, 4, 100), FENNELRAKE_ACCEPTED);
+    lay(0, 1, 1);
+    EXPECT(fed(FENNELRAKE_REGISTER, 0, 0, 5, 1, 2), FENNELRAKE_ACCEPTED);
+    EXPECT(compared(0, 5), FENNELRAKE_REFUSED_NOT_IN_FORCE);
+    for (i = 1; i < 6; i++)
+        EXPECT(fed(FENNELRAKE_MESSAGE, 10 * i, i, 0, 0, i), FENNELRAKE_ACCEPTED);
+    closeness_is(2, 5, FENNELRAKE_TOP_CLOSENESS, 0);
+    closeness_is(3, 5, 666, 4);
+    closeness_is(4, 5, 500, 0);
+    for (i = 0; i < sizeof unused / sizeof unused[0]; i++) {
+        EXPECT(compared(4, unused[i]), FENNELRAKE_REFUSED_NOT_IN_USE);
+        EXPECT(compared(6, unused[i]), FENNELRAKE_REFUSED_NOT_IN_FORCE);
+    }
+    /* message 1 has left for the four; of message 4 the slot will say the last serial but one, once it's cancelled */
+    for (i = 0; i < sizeof unknown / sizeof unknown[0]; i++)
+        EXPECT(compared(unknown[i], 5), FENNELRAKE_REFUSED_NOT_IN_FORCE);
+    EXPECT(fed(FENNELRAKE_CANCEL, 50, 4, 0, 0, 0), FENNELRAKE_ACCEPTED);
+    EXPECT(compared(4, 5), FENNELRAKE_REFUSED_NOT_IN_FORCE);
+    for (i = 0; i < sizeof unknown / sizeof unknown[0]; i++)
+        EXPECT(compared(unknown[i], 5), FENNELRAKE_REFUSED_NOT_IN_FORCE);
+    /* its serial once more, for which message 2 leaves */
+    EXPECT(fed(FENNELRAKE_MESSAGE, 60, 4, 0, 0, 3), FENNELRAKE_ACCEPTED);
+    closeness_is(4, 5, 666, 4);
+    EXPECT(compared(2, 5), FENNELRAKE_REFUSED_NOT_IN_FORCE);
+    /* message 3, of time 30, in its last second and after it */
+    EXPECT(fed(FENNELRAKE_TICK, 130, 0, 0, 0, 0), FENNELRAKE_ACCEPTED);
+    closeness_is(3, 5, 666, 4);
+    EXPECT(fed(FENNELRAKE_TICK, 131, 0, 0, 0, 0), FENNELRAKE_ACCEPTED);
+    EXPECT(compared(3, 5), FENNELRAKE_REFUSED_NOT_IN_FORCE);
+
+    /* lengths come before both; a longer answer keeps its other bytes */
+    ready(closeness, FENNELRAKE_CLOSENESS_ANSWER_SIZE);
+    EXPECT(fennelrake_closeness(state, FENNELRAKE_STATE_SIZE - 1, 6, 6, closeness, FENNELRAKE_CLOSENESS_ANSWER_SIZE), FENNELRAKE_REFUSED_MEMORY);
+    EXPECT(fennelrake_closeness(state, FENNELRAKE_STATE_SIZE - 1, 4, 5, closeness, FENNELRAKE_CLOSENESS_ANSWER_SIZE), FENNELRAKE_REFUSED_MEMORY);
+    EXPECT(fennelrake_closeness(state, FENNELRAKE_STATE_SIZE, 6, 6, closeness, FENNELRAKE_CLOSENESS_ANSWER_SIZE - 1), FENNELRAKE_REFUSED_MEMORY);
+    EXPECT(fennelrake_closeness(state, FENNELRAKE_STATE_SIZE, 4, 5, closeness, FENNELRAKE_CLOSENESS_ANSWER_SIZE - 1), FENNELRAKE_REFUSED_MEMORY);
+    EXPECT(fennelrake_closeness(NULL, 0, 4, 5, NULL, 0), FENNELRAKE_REFUSED_MEMORY);
+    EXPECT(untouched(closeness, FENNELRAKE_CLOSENESS_ANSWER_SIZE), 1);
+    closeness_is(4, 5, 666, 4);
+    ready(found, FENNELRAKE_SEARCH_ANSWER_SIZE);
+    EXPECT(fennelrake_closeness(state, FENNELRAKE_STATE_SIZE, 4, 5, found, FENNELRAKE_SEARCH_ANSWER_SIZE), FENNELRAKE_ACCEPTED);
+    EXPECT(memcmp(found, closeness, FENNELRAKE_CLOSENESS_ANSWER_SIZE) == 0, 1);
+    EXPECT(untouched(found + FENNELRAKE_CLOSENESS_ANSWER_SIZE, FENNELRAKE_SEARCH_ANSWER_SIZE - FENNELRAKE_CLOSENESS_ANSWER_SIZE), 1);
+
+    EXPECT(fed(FENNELRAKE_DROP, 131, 0, 5, 0, 0), FENNELRAKE_ACCEPTED);
+    EXPECT(compared(4, 5), FENNELRAKE_REFUSED_NOT_IN_USE);
+}
+
 int main(void)
 {
-    unsigned i;
-
-    for (i = 0; i < PLENTY; i++) {
-        fennelrake_put_term(terms, i, (uint16_t)i);
-        amounts[i] = 1;
-    }
+    lay(0, 1, 1);
     state = lent(FENNELRAKE_STATE_SIZE);
+    before = lent(FENNELRAKE_STATE_SIZE);
     frame = lent(FENNELRAKE_LONGEST_FRAME);
     reply = lent(FENNELRAKE_FRAME_ANSWER_SIZE);
     list = lent(FENNELRAKE_LIST_ANSWER_SIZE);
     postings = lent(FENNELRAKE_POSTINGS_SIZE);
     found = lent(FENNELRAKE_SEARCH_ANSWER_SIZE);
+    closeness = lent(FENNELRAKE_CLOSENESS_ANSWER_SIZE);
     words();
     starting();
     lengths();
@@ -492,11 +612,15 @@ int main(void)
     urgencies(FENNELRAKE_URGENT_MESSAGE);
     urgencies(FENNELRAKE_LONG_MESSAGE);
     searches();
+    closeness_values();
+    closeness_refusals();
     free(state);
+    free(before);
     free(frame);
     free(reply);
     free(list);
     free(postings);
     free(found);
+    free(closeness);
     return failures == 0 ? 0 : 1;
 }

@@ -1,7 +1,8 @@
 /*
  * Two targets over the archive's entries: 'passage' takes a session's input (N less one, T, then frames after their lengths) and checks after each
  * frame all that the state memory tells by docs/STATE.md, without a reference; 'foreign' makes state memory that no sequence of calls left. In both
- * each frame is asked as a search, too, and in 'passage' the last one that could be is asked again after every frame.
+ * each frame is asked as a search, too, and in 'passage' the last one that could be is asked again after every frame. How close messages are to queries
+ * is asked after every frame.
  *
  * The archive isn't instrumented. So each lent slice stands against a page that can't be touched, first with its end and in a second run with its
  * start (or up to three bytes on, for an odd address), and guard bytes are on its other side.
@@ -142,12 +143,24 @@ static uint64_t postings(uint32_t term, size_t room)
     return r;
 }
 
+/* Notes the state memory, and later on holds that it is as it was noted. */
+static uint8_t noted[FENNELRAKE_STATE_SIZE];
+
+static void note(void)
+{
+    memcpy(noted, state.bytes, state.length);
+}
+
+static void unchanged(void)
+{
+    HOLD(memcmp(noted, state.bytes, state.length) == 0);
+}
+
 /* A search writes the answer alone, whatever memory it is given. */
 static uint32_t search(const uint8_t *bytes, size_t length, size_t room)
 {
-    static uint8_t was[FENNELRAKE_STATE_SIZE];
     uint32_t number;
-    memcpy(was, state.bytes, state.length);
+    note();
     lend(&frame, length, 0);
     if (length > 0)
         memcpy(frame.bytes, bytes, length);
@@ -156,11 +169,29 @@ static uint32_t search(const uint8_t *bytes, size_t length, size_t room)
     guarded(&state);
     guarded(&frame);
     guarded(&answer);
-    HOLD(memcmp(was, state.bytes, state.length) == 0);
+    unchanged();
     HOLD(length == 0 || memcmp(frame.bytes, bytes, length) == 0);
     HOLD(number <= FENNELRAKE_REFUSED_ORDER || number == FENNELRAKE_REFUSED_MEMORY);
     HOLD(number == 0 || all_of(answer.bytes, room, FRESH));
     return number;
+}
+
+/* A closeness is never above the top, whatever memory it is given, and writes eight bytes or none. */
+static uint32_t closeness(uint32_t serial, uint32_t number, size_t room)
+{
+    uint32_t r;
+    lend(&answer, room, FRESH);
+    r = fennelrake_closeness(state.bytes, state.length, serial, number, answer.bytes, room);
+    guarded(&state);
+    guarded(&answer);
+    if (r == 0) {
+        HOLD(fennelrake_closeness_quotient(answer.bytes) <= FENNELRAKE_TOP_CLOSENESS);
+        HOLD(all_of(answer.bytes + FENNELRAKE_CLOSENESS_ANSWER_SIZE, room - FENNELRAKE_CLOSENESS_ANSWER_SIZE, FRESH));
+    } else {
+        HOLD(r == FENNELRAKE_REFUSED_MEMORY || r == FENNELRAKE_REFUSED_NOT_IN_FORCE || r == FENNELRAKE_REFUSED_NOT_IN_USE);
+        HOLD(all_of(answer.bytes, room, FRESH));
+    }
+    return r;
 }
 
 /* ---- what the state memory keeps (docs/STATE.md) */
@@ -224,10 +255,15 @@ static const uint8_t *record(const uint8_t *s, uint32_t q)
     return s + 4 * (RECORDS + RECORD * q);
 }
 
-/* Term and impact of a cell; its count stands between them. */
+/* Term, count and impact of a cell. */
 static uint32_t term_in(struct message m, uint32_t i)
 {
     return part(m, CELL + i) >> 22;
+}
+
+static uint32_t count_in(struct message m, uint32_t i)
+{
+    return part(m, CELL + i) >> 14 & 255;
 }
 
 static uint32_t impact_in(struct message m, uint32_t i)
@@ -235,13 +271,19 @@ static uint32_t impact_in(struct message m, uint32_t i)
     return part(m, CELL + i) & 16383;
 }
 
+/* Which cell of a message has a term; how many there are in all where none has. */
+static uint32_t cell_of(struct message m, uint32_t term)
+{
+    uint32_t i = 0;
+    while (i < cells(m) && term_in(m, i) != term)
+        i++;
+    return i;
+}
+
 static uint32_t impact(struct message m, uint32_t term)
 {
-    uint32_t i;
-    for (i = 0; i < cells(m); i++)
-        if (term_in(m, i) == term)
-            return impact_in(m, i);
-    return 0;
+    uint32_t i = cell_of(m, term);
+    return i < cells(m) ? impact_in(m, i) : 0;
 }
 
 static uint32_t score(struct message m, const uint8_t *r)
@@ -607,6 +649,71 @@ static void check_searches(const uint8_t *s, const uint8_t *f, size_t length, ui
         check_search(s, question, question_length);
 }
 
+/* Whether counts and weights are in proportion, and neither side has a term that the other lacks. */
+static int in_proportion(struct message m, const uint8_t *r)
+{
+    uint32_t i;
+    if (cells(m) != word(r, N))
+        return 0;
+    for (i = 0; i < cells(m); i++)
+        if (term_in(m, i) != word(r, TERM + i) / 16 || count_in(m, i) * (word(r, TERM) % 16) != count_in(m, 0) * (word(r, TERM + i) % 16))
+            return 0;
+    return 1;
+}
+
+/* A closeness, whatever serial and number: refused as it should be, or what the division of the sums gives. */
+static void check_closeness(const uint8_t *s, uint32_t serial, uint32_t number)
+{
+    const uint8_t *r = record(s, number % FENNELRAKE_QUERIES);
+    uint32_t found = closeness(serial, number, FENNELRAKE_CLOSENESS_ANSWER_SIZE + ordinal % 4), i, j = 0;
+    uint64_t quotient, remainder, sum = 0, a = 0, b = 0;
+    struct message m;
+
+    while (j < word(s, COUNT) && (cancelled(message(s, j)) || part(message(s, j), SERIAL) != serial))
+        j++;
+    HOLD((found == FENNELRAKE_REFUSED_NOT_IN_FORCE) == (j == word(s, COUNT)));
+    if (j == word(s, COUNT))
+        return;
+    HOLD(found == (number < FENNELRAKE_QUERIES && word(r, K) != 0 ? FENNELRAKE_ACCEPTED : FENNELRAKE_REFUSED_NOT_IN_USE));
+    if (found != 0)
+        return;
+    m = message(s, j);
+    for (i = 0; i < cells(m); i++)
+        a += count_in(m, i) * count_in(m, i);
+    for (i = 0; i < word(r, N); i++) {
+        uint32_t weight = word(r, TERM + i) % 16, at = cell_of(m, word(r, TERM + i) / 16);
+        b += weight * weight;
+        sum += at < cells(m) ? weight * count_in(m, at) : 0;
+    }
+    quotient = fennelrake_closeness_quotient(answer.bytes);
+    remainder = fennelrake_closeness_remainder(answer.bytes);
+    HOLD((quotient == FENNELRAKE_TOP_CLOSENESS && remainder == 0) == in_proportion(m, r));
+    HOLD(quotient * (a * b) + remainder == 1000 * sum * sum && remainder < a * b);
+    seen(16, (uint32_t)quotient / 50 * 2 + (remainder == 0));
+}
+
+/*
+ * The closeness of each message that fills a place, and of the slots on either side of them, to one query after the other; of one message to every
+ * number; and of serials that are near one of these. The numbers in use are mostly low.
+ */
+static void check_closenesses(const uint8_t *s)
+{
+    uint32_t turn = (uint32_t)ordinal, low = turn % 6, count = word(s, COUNT), serial = part(message(s, count > 0 ? turn % count : 0), SERIAL), i;
+
+    for (i = 0; i < count + 2; i++)
+        check_closeness(s, part(message(s, SLOTS - 1 + i), SERIAL), (turn + i) % 6);
+    for (i = 0; i < FENNELRAKE_QUERIES + 2; i++)
+        check_closeness(s, serial, i);
+    check_closeness(s, serial, FENNELRAKE_QUERIES * turn + low);
+    check_closeness(s, serial % FENNELRAKE_SERIALS, low);
+    check_closeness(s, serial % FENNELRAKE_SERIALS + FENNELRAKE_SERIALS * (turn % (FENNELRAKE_MOST_PAIRS + 2)), low);
+    check_closeness(s, turn % 64, UINT32_MAX);
+    HOLD(closeness(serial, turn, turn % FENNELRAKE_CLOSENESS_ANSWER_SIZE) == FENNELRAKE_REFUSED_MEMORY);
+    lend(&answer, FENNELRAKE_CLOSENESS_ANSWER_SIZE, FRESH);
+    HOLD(fennelrake_closeness(state.bytes, state.length - 1, serial, low, answer.bytes, answer.length) == FENNELRAKE_REFUSED_MEMORY);
+    HOLD(all_of(answer.bytes, answer.length, FRESH));
+}
+
 /* The writer makes the same bytes of the frame's fields, into exactly as many, whatever they held. */
 static void check_writer(const uint8_t *f, size_t length)
 {
@@ -749,6 +856,7 @@ static uint32_t checked_frame(const uint8_t *f, size_t length)
     }
     check_postings(now, word(now, COUNT) > 0 ? term_in(message(now, (uint32_t)ordinal % word(now, COUNT)), 0) : (uint32_t)ordinal % 1024);
     check_searches(now, f, length, UINT32_MAX);
+    check_closenesses(now);
     check_writer(f, length);
     HOLD(list(beyond, FENNELRAKE_LIST_ANSWER_SIZE - 1) == FENNELRAKE_REFUSED_MEMORY && all_of(answer.bytes, answer.length, FRESH));
     HOLD(postings(FENNELRAKE_TERMS + (uint32_t)ordinal, 0) == (uint64_t)FENNELRAKE_REFUSED_VALUE << 32);
@@ -811,23 +919,34 @@ void passage(const uint8_t *data, size_t size)
 
 /* ---- the target 'foreign' */
 
+/* The next number in use from one on, around; the one before it where there is none. */
+static uint32_t in_use(uint32_t from)
+{
+    uint32_t i = 0;
+    while (i < FENNELRAKE_QUERIES - 1 && word(record(state.bytes, (from + i) % FENNELRAKE_QUERIES), K) == 0)
+        i++;
+    return (from + i) % FENNELRAKE_QUERIES;
+}
+
 /*
  * Puts a value into a word of the state memory. The words that steer a loop are few: those at the start, and the first of a slot and a record. Some
- * values are about the serial words of cancelled messages, and some about sizes with an urgency above them.
+ * values are about the serial words of cancelled messages, and some about sizes with an urgency above them. One is what the word before has, so that a
+ * query in use can have a term twice.
  */
 static void damage(int steering, const uint8_t *how)
 {
     static const uint32_t values[] = {0, 1, 8, 9, 15, 16, 17, 32, 33, 64, 96, 161, 192, 225, 255, 256, 257, FENNELRAKE_TOP_IMPACT, 65535, 0xfffff,
                                       0x100000, 0x2000000, 0x2100000, 0x7fffffff, 0x80000000, 0xfffffffe, 0xffffffff};
     uint32_t i = (how[0] * 256u + how[1]) % (FENNELRAKE_STATE_SIZE / 4), value = values[how[2] % (sizeof values / sizeof values[0])];
+    int again = how[2] == 255;
 
     if (steering && how[0] < 64)
         i = how[0] % HEADER;
     else if (steering && how[0] < 160)
         i = slot_at(how[1], how[0] % (CELL + 1u));
     else if (steering)
-        i = RECORDS + RECORD * (how[1] % 32u) + how[0] % 20u;
-    put_word(state.bytes, i, value);
+        i = RECORDS + RECORD * (again ? in_use(how[1]) : how[1] % 32u) + how[0] % 20u;
+    put_word(state.bytes, i, again && i > 0 ? word(state.bytes, i - 1) : value);
 }
 
 /* A search for the term of the oldest slot's first cell and the one after it, so that there are postings. */
@@ -845,6 +964,18 @@ static uint32_t search_there(uint32_t k)
     entries = fennelrake_list_count(answer.bytes);
     HOLD(entries <= k);
     return entries;
+}
+
+/* The closeness of some messages to a query. Returns how many are accepted. */
+static uint32_t closeness_there(uint32_t number)
+{
+    uint32_t i, accepted = 0;
+
+    note();
+    for (i = 0; i < 16; i++)
+        accepted += closeness(part(message(state.bytes, i), SERIAL), number, FENNELRAKE_CLOSENESS_ANSWER_SIZE) == 0;
+    unchanged();
+    return accepted;
 }
 
 /*
@@ -886,6 +1017,7 @@ static void foreign_run(const uint8_t *data, size_t size)
         seen(7, (uint32_t)(postings((uint32_t)ordinal, ordinal % 64) >> 32));
         seen(14, search(data, length, FENNELRAKE_SEARCH_ANSWER_SIZE));
         seen(15, search_there(1 + (uint32_t)ordinal % FENNELRAKE_LIST_PLACES));
+        seen(17, closeness_there(in_use((uint32_t)ordinal)));
         data += length;
         size -= length;
     }

@@ -66,28 +66,29 @@ static void clear(uint8_t *frame, uint32_t at, uint32_t width)
 /*
  * A frame after its length: few terms, serials and queries, so that much is shared; one in eight is damaged. As many cancel a message as send one,
  * mostly one of the last; some send one of these serials again. Two in three messages say an urgency, and a few of them one that there isn't, be the
- * first count 0 or not. A third of the messages have terms side by side, half of these as many as their kind can; in a fourth most counts are as high
- * as can be. A few registrations have a weight of 0, be there a bit in the fill or terms that don't rise or not.
+ * first count 0 or not. A third of the messages and of the queries have terms side by side, half of these as many as their kind can; in a fourth most
+ * counts or weights are as high as can be. A few registrations have a weight of 0, be there a bit in the fill or terms that don't rise or not.
  */
 static void put_frame(uint32_t *clock, uint32_t life)
 {
     static const uint32_t kinds[] = {FENNELRAKE_MESSAGE, FENNELRAKE_URGENT_MESSAGE, FENNELRAKE_LONG_MESSAGE};
     uint8_t terms[2 * FENNELRAKE_MOST_PAIRS], amounts[FENNELRAKE_MOST_PAIRS], frame[FENNELRAKE_LONGEST_FRAME + 1] = {0};
     uint32_t kind = below(13), apart = below(4) == 0 ? 120 : 6, reach = 3 * apart, most = FENNELRAKE_MOST_QUERY_TERMS, pairs = 0, term, length, i;
-    uint32_t time, serial, number, k;
-    int is_message = kind > 2 && kind < 8, high = is_message && below(4) == 0;
+    uint32_t time, serial, number, k, top;
+    int is_message = kind > 2 && kind < 8, high = below(4) == 0;
 
     kind = kind > 7 ? FENNELRAKE_CANCEL : is_message ? kinds[below(3)] : kind + 2;
     if (is_message)
         most = kind == FENNELRAKE_LONG_MESSAGE ? FENNELRAKE_MOST_PAIRS : FENNELRAKE_MOST_SHORT_PAIRS;
-    if (is_message && below(3) == 0) {
-        most -= below(2) * below(16);
+    top = is_message ? FENNELRAKE_MOST_COUNT : FENNELRAKE_MOST_WEIGHT;
+    if (below(3) == 0) {
+        most -= below(2) * below(most);
         reach = most;
         apart = 1;
     }
     for (term = below(apart); pairs < most && term < reach; term += 1 + below(apart)) {
         fennelrake_put_term(terms, pairs, (uint16_t)(term < reach - 1 ? term : FENNELRAKE_TERMS - 1));
-        amounts[pairs++] = (uint8_t)(once ? 1 : high && below(8) > 0 ? 255 : 1 + (below(16) == 0 && is_message ? below(255) : below(4)));
+        amounts[pairs++] = (uint8_t)(once ? 1 : high && below(8) > 0 ? top : 1 + below(below(16) == 0 ? top : 4));
     }
     if (alike) {
         fennelrake_put_term(terms, 0, 0);
@@ -143,6 +144,17 @@ static void make_passage(uint32_t most)
         size -= below(4) % (size + 1);
 }
 
+/* A damage: to any word; or, of words 3 to 5 of a record in use, the pair before it once more. */
+static void put_damage(void)
+{
+    int twice = below(2) == 0;
+
+    put(twice ? 192 : 192 + below(64));
+    put(twice ? 163 + below(3) : below(256));
+    put(below(256));
+    put(twice ? 255 : below(256));
+}
+
 static void make_foreign(uint32_t most)
 {
     uint32_t steps = below(most), tile = below(2) == 0 ? below(40) : 0, clock = below(3) == 0 ? UINT32_MAX - 300 : 0, i;
@@ -152,13 +164,10 @@ static void make_foreign(uint32_t most)
     for (i = 0; i < tile; i++)
         put(below(3) == 0 ? below(256) : 0);
     while (steps-- > 0) {
-        if (below(6) > 0) {
+        if (below(6) > 0)
             put_frame(&clock, 1000);
-            continue;
-        }
-        put(192 + below(64));
-        for (i = 0; i < 3; i++)
-            put(below(256));
+        else
+            put_damage();
     }
 }
 
