@@ -75,10 +75,12 @@ fn divided(shared: u32, squares: u32, weights: u32) -> Closeness
     ensures { λ r. ⌜ Divided shared squares weights r ⌝ }
 {
     let shared = shared as u64;
-    let dividend = WHOLE * (shared * shared);
+    let square = shared * shared;
+    let dividend = WHOLE * square;
     let divisor = at_least_one(squares as u64 * weights as u64);
+    let remainder = (dividend % divisor) as u32;
     Closeness {
         quotient: at_most_whole(dividend / divisor),
-        remainder: (dividend % divisor) as u32,
+        remainder,
     }
 }

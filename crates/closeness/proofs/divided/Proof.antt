@@ -13,20 +13,23 @@ use Rattle.closeness.proofs.divided.Tie as tie
 small : (c : tie.Start) → c .args .squares * c .args .weights ≤ mostSquares * mostWeights
 small c = product-most (c .args .squares) (c .args .weights) (c .pre .1) (c .pre .2)
 
+mul-square : tie.Need-mul-square
+mul-square c = record { fits = omega (arith, shared-most (c .args .shared) (c .pre .0)) }
+
 mul-dividend : tie.Need-mul-dividend
 mul-dividend c = record { fits = omega (arith, shared-most (c .args .shared) (c .pre .0)) }
-
-mul-dividend-2 : tie.Need-mul-dividend-2
-mul-dividend-2 c = record { fits = omega (arith, shared-most (c .args .shared) (c .pre .0)) }
 
 mul-at-least-one : tie.Need-mul-at-least-one
 mul-at-least-one c = record { fits = omega (arith, small c) }
 
-cast-t11 : tie.Need-cast-t11
-cast-t11 c =
-    let d = c .before in
-    let below = mod-lt (1000 * (d .before .args .shared * d .before .args .shared)) {m = d .at-least-one .result} (omega arith) in
-    record { fits = omega (arith, small (d .before)) }
+cast-remainder : tie.Need-cast-remainder
+cast-remainder c =
+    let below = mod-lt (1000 * (c .before .args .shared * c .before .args .shared)) {m = c .at-least-one .result} (omega arith) in
+    record { fits = omega (arith, small (c .before)) }
+
+-- nothing is divided by 0
+divides : tie.Need-div-at-most-whole
+divides c = search needs
 
 returns : tie.Need-returns
 returns c =
@@ -37,12 +40,12 @@ pub divided-spec : {M : Type 1} → statement M
 divided-spec =
     tie.close
     (tie.spec
+    mul-square
     mul-dividend
-    mul-dividend-2
     mul-at-least-one
     (λ c κs. search needs)
     (λ c. search needs)
+    cast-remainder
+    divides
     (λ c κs. search needs)
-    (λ c. search needs)
-    cast-t11
     returns)
