@@ -1,7 +1,17 @@
-//! A search of the engine beside that of the log.
+//! A search and a closeness of the engine beside those of the log.
 
 use crate::engine::{self, Lent};
-use crate::paper::{asked, Found, Frame, Log};
+use crate::paper::{asked, Found, Frame, Log, Message, Query};
+
+/// A copy of the state with a query registered at the clock, under this number, whether or not that is in use.
+fn with_query(state: &Lent, log: &Log, number: usize, q: &Query) -> Lent {
+    let (mut copy, time) = (state.clone(), log.clock);
+    if log.queries[number].is_some() {
+        assert_eq!(engine::frame(&mut copy, &Frame::Drop { time, number }.bytes()).number, 0);
+    }
+    assert_eq!(engine::frame(&mut copy, &Frame::Register { time, number, k: q.k, terms: q.terms.clone() }.bytes()).number, 0);
+    copy
+}
 
 /// Asks both for a search by any bytes, and compares number, list and postings read. The list is also the log's ranking, and the one that the engine
 /// keeps where the query is registered in a copy of its state, at the clock and under this number.
@@ -17,11 +27,33 @@ pub fn search(state: &Lent, log: &Log, bytes: &[u8], number: usize) -> Result<Fo
     let found = log.search(&q);
     assert_eq!(got, Ok((found.list.clone(), found.read)), "list and postings read of a search for {q:?}");
     assert_eq!(found.list, log.ranking(&q), "the messages seen and the ranking of all, for {q:?}");
-    let (mut copy, time) = (state.clone(), log.clock);
-    if log.queries[number].is_some() {
-        assert_eq!(engine::frame(&mut copy, &Frame::Drop { time, number }.bytes()).number, 0);
-    }
-    assert_eq!(engine::frame(&mut copy, &Frame::Register { time, number, k: q.k, terms: q.terms.clone() }.bytes()).number, 0);
+    let copy = with_query(state, log, number, &q);
     assert_eq!(engine::list(&copy, number as u32).as_deref(), Ok(&found.list[..]), "the list of {q:?}, registered");
     Ok(found)
+}
+
+/// Asks both for the closeness of a message to a query, and compares number, quotient and remainder.
+pub fn closeness(state: &Lent, log: &Log, serial: u32, number: u32) -> Result<(u32, u32), u32> {
+    let got = engine::closeness(state, serial, number);
+    match log.compared(serial, number) {
+        Err(refusal) => assert_eq!(got, Err(refusal), "a closeness of message {serial} to query {number}"),
+        Ok((m, q)) => assert_close(got, m, q),
+    }
+    got
+}
+
+/// The same to a query that is registered in a copy of the state, under this number. The message is in force.
+pub fn closeness_to(state: &Lent, log: &Log, serial: u32, q: &Query, number: usize) -> (u32, u32) {
+    let m = &log.messages[log.holder(serial, log.clock).expect("a message in force")];
+    let got = engine::closeness(&with_query(state, log, number, q), serial, number as u32);
+    assert_close(got, m, q);
+    m.closeness(q)
+}
+
+/// Quotient and remainder are the log's. The quotient is at most 1,000, and 1,000 with remainder 0 exactly for counts in proportion to the weights.
+fn assert_close(got: Result<(u32, u32), u32>, m: &Message, q: &Query) {
+    let close = m.closeness(q);
+    assert_eq!(got, Ok(close), "closeness of {m:?} to {q:?}");
+    assert!(close.0 <= 1000, "{close:?} of {m:?} to {q:?}");
+    assert_eq!(close == (1000, 0), m.is_in_proportion(q), "{close:?} of {m:?} to {q:?}");
 }

@@ -8,6 +8,7 @@ pub const LONGEST_FRAME: usize = 80;
 pub const FRAME_ANSWER: usize = 8;
 pub const LIST_ANSWER: usize = 132;
 pub const SEARCH_ANSWER: usize = 136;
+pub const CLOSENESS_ANSWER: usize = 8;
 
 extern "C" {
     fn fennelrake_start(state: *mut u8, state_len: usize, capacity: u32, life: u32) -> u32;
@@ -15,6 +16,7 @@ extern "C" {
     fn fennelrake_list(state: *const u8, state_len: usize, number: u32, answer: *mut u8, answer_len: usize) -> u32;
     fn fennelrake_postings(state: *const u8, state_len: usize, term: u32, out: *mut u8, out_len: usize) -> u64;
     fn fennelrake_search(state: *const u8, state_len: usize, frame: *const u8, frame_len: usize, answer: *mut u8, answer_len: usize) -> u32;
+    fn fennelrake_closeness(state: *const u8, state_len: usize, serial: u32, number: u32, answer: *mut u8, answer_len: usize) -> u32;
     #[allow(clippy::too_many_arguments)]
     fn fennelrake_write(
         kind: u32, time: u32, serial: u32, urgency: u32, number: u32, k: u32, pairs: u32,
@@ -97,36 +99,40 @@ pub mod raw {
         r
     }
 
-    pub fn list(state: &mut Lent, number: u32, answer: &mut Lent) -> u32 {
-        let (n, m) = (state.bytes().len(), answer.bytes().len());
-        // SAFETY: as above
-        let r = unsafe { fennelrake_list(state.at(), n, number, answer.at(), m) };
-        state.check();
-        answer.check();
-        r
-    }
-
-    pub fn postings(state: &mut Lent, term: u32, out: &mut Lent) -> u64 {
-        let (n, m) = (state.bytes().len(), out.bytes().len());
-        // SAFETY: as above
-        let r = unsafe { fennelrake_postings(state.at(), n, term, out.at(), m) };
-        state.check();
-        out.check();
-        r
-    }
-
-    /// Of any memory, too, a search writes the answer alone.
-    pub fn search(state: &Lent, bytes: &[u8], answer: &mut Lent) -> u32 {
-        let (mut copy, mut bytes) = (state.clone(), Lent::new(bytes));
-        let (before, n, k, m) = (bytes.clone(), copy.bytes().len(), bytes.bytes().len(), answer.bytes().len());
-        // SAFETY: as above
-        let r = unsafe { fennelrake_search(copy.at(), n, bytes.at(), k, answer.at(), m) };
+    /// A reading, called with pointer and length of a state and of its output: of any memory it writes the output alone.
+    fn reading<R>(state: &Lent, out: &mut Lent, call: impl FnOnce(*const u8, usize, *mut u8, usize) -> R) -> R {
+        let mut copy = state.clone();
+        let (n, m) = (copy.bytes().len(), out.bytes().len());
+        let r = call(copy.at(), n, out.at(), m);
         copy.check();
-        answer.check();
+        out.check();
+        assert!(copy.bytes() == state.bytes(), "a reading wrote in the state");
+        r
+    }
+
+    pub fn list(state: &Lent, number: u32, answer: &mut Lent) -> u32 {
+        // SAFETY: as above
+        reading(state, answer, |s, n, a, m| unsafe { fennelrake_list(s, n, number, a, m) })
+    }
+
+    pub fn postings(state: &Lent, term: u32, out: &mut Lent) -> u64 {
+        // SAFETY: as above
+        reading(state, out, |s, n, o, m| unsafe { fennelrake_postings(s, n, term, o, m) })
+    }
+
+    pub fn search(state: &Lent, bytes: &[u8], answer: &mut Lent) -> u32 {
+        let mut bytes = Lent::new(bytes);
+        let (before, k) = (bytes.clone(), bytes.bytes().len());
+        // SAFETY: as above
+        let r = reading(state, answer, |s, n, a, m| unsafe { fennelrake_search(s, n, bytes.at(), k, a, m) });
         bytes.check();
-        assert!(copy.bytes() == state.bytes(), "a search wrote in the state");
         assert!(before.bytes() == bytes.bytes(), "a call wrote in the frame");
         r
+    }
+
+    pub fn closeness(state: &Lent, serial: u32, number: u32, answer: &mut Lent) -> u32 {
+        // SAFETY: as above
+        reading(state, answer, |s, n, a, m| unsafe { fennelrake_closeness(s, n, serial, number, a, m) })
     }
 
     pub fn write(f: &Fields, out: &mut Lent) -> u64 {
@@ -144,39 +150,45 @@ pub mod raw {
     }
 }
 
+/// What a call writes into an answer of this length, or the number that refuses it; three bytes past it must stay.
+fn answered(length: usize, call: impl FnOnce(&mut Lent) -> u32) -> Result<Vec<u8>, u32> {
+    let mut answer = Lent::new(&vec![0xa5; length + 3]);
+    let r = call(&mut answer);
+    let (written, past) = answer.bytes().split_at(length);
+    assert_eq!(past, [0xa5; 3], "bytes past the answer changed");
+    if r == 0 {
+        Ok(written.to_vec())
+    } else {
+        Err(r)
+    }
+}
+
+/// A call's number; a refusal must leave the answer as it was.
+fn judged(answer: &mut Lent, call: impl FnOnce(&mut Lent) -> u32) -> u32 {
+    let unanswered = answer.clone();
+    let r = call(answer);
+    assert!(r == 0 || unanswered.bytes() == answer.bytes(), "a refusal wrote an answer");
+    r
+}
+
 /// The reply; a refusal must leave state and answer as they were.
 pub fn frame(state: &mut Lent, bytes: &[u8]) -> Reply {
-    let mut answer = Lent::new(&[0xa5; FRAME_ANSWER + 3]);
-    let number = frame_into(state, bytes, &mut answer);
-    let a = answer.bytes();
-    assert_eq!(&a[FRAME_ANSWER..], [0xa5; 3], "bytes past the answer changed");
-    if number == 0 {
-        Reply { number, marks: word(a, 0), departures: word(a, 1) }
-    } else {
-        Reply { number, marks: 0, departures: 0 }
+    match answered(FRAME_ANSWER, |answer| frame_into(state, bytes, answer)) {
+        Ok(a) => Reply { number: 0, marks: word(&a, 0), departures: word(&a, 1) },
+        Err(number) => Reply { number, marks: 0, departures: 0 },
     }
 }
 
 pub fn frame_into(state: &mut Lent, bytes: &[u8], answer: &mut Lent) -> u32 {
-    let (before, unanswered) = (state.clone(), answer.clone());
-    let r = raw::frame(state, bytes, answer);
-    if r != 0 {
-        assert!(before.bytes() == state.bytes(), "a refusal changed the state");
-        assert!(unanswered.bytes() == answer.bytes(), "a refusal wrote an answer");
-    }
+    let before = state.clone();
+    let r = judged(answer, |answer| raw::frame(state, bytes, answer));
+    assert!(r == 0 || before.bytes() == state.bytes(), "a refusal changed the state");
     r
 }
 
 /// The list of a query as a reading returns it, or the number that refuses it.
 pub fn list(state: &Lent, number: u32) -> Result<Vec<(u32, u32)>, u32> {
-    let mut answer = Lent::new(&[0xa5; LIST_ANSWER + 3]);
-    let r = list_into(state, number, &mut answer);
-    let a = answer.bytes();
-    assert_eq!(&a[LIST_ANSWER..], [0xa5; 3], "bytes past the answer changed");
-    if r != 0 {
-        return Err(r);
-    }
-    Ok(entries(a))
+    answered(LIST_ANSWER, |answer| list_into(state, number, answer)).map(|a| entries(&a))
 }
 
 /// Serial and score of each entry of a list's answer.
@@ -190,21 +202,13 @@ fn entries(a: &[u8]) -> Vec<(u32, u32)> {
 }
 
 pub fn list_into(state: &Lent, number: u32, answer: &mut Lent) -> u32 {
-    let (mut copy, unanswered) = (state.clone(), answer.clone());
-    let r = raw::list(&mut copy, number, answer);
-    assert!(copy.bytes() == state.bytes(), "a reading wrote in the state");
-    if r != 0 {
-        assert!(unanswered.bytes() == answer.bytes(), "a refusal wrote an answer");
-    }
-    r
+    judged(answer, |answer| raw::list(state, number, answer))
 }
 
 /// The postings of a term, written into output of so many bytes, or the number that refuses it.
 pub fn postings(state: &Lent, term: u32, room: usize) -> Result<Vec<(u32, u32)>, u32> {
-    let mut copy = state.clone();
     let mut out = Lent::new(&vec![0xa5; room]);
-    let r = raw::postings(&mut copy, term, &mut out);
-    assert!(copy.bytes() == state.bytes(), "a reading wrote in the state");
+    let r = raw::postings(state, term, &mut out);
     let (number, count) = ((r >> 32) as u32, r as u32 as usize);
     let written = if number == 0 { 8 * count } else { 0 };
     assert!(out.bytes()[written..].iter().all(|&b| b == 0xa5), "output past what is written changed");
@@ -217,23 +221,20 @@ pub fn postings(state: &Lent, term: u32, room: usize) -> Result<Vec<(u32, u32)>,
 
 /// The list that a search finds and the postings that it reads, or the number that refuses it.
 pub fn search(state: &Lent, bytes: &[u8]) -> Result<(Vec<(u32, u32)>, u32), u32> {
-    let mut answer = Lent::new(&[0xa5; SEARCH_ANSWER + 3]);
-    let r = search_into(state, bytes, &mut answer);
-    let a = answer.bytes();
-    assert_eq!(&a[SEARCH_ANSWER..], [0xa5; 3], "bytes past the answer changed");
-    if r != 0 {
-        return Err(r);
-    }
-    Ok((entries(a), word(a, 33)))
+    answered(SEARCH_ANSWER, |answer| search_into(state, bytes, answer)).map(|a| (entries(&a), word(&a, 33)))
 }
 
 pub fn search_into(state: &Lent, bytes: &[u8], answer: &mut Lent) -> u32 {
-    let unanswered = answer.clone();
-    let r = raw::search(state, bytes, answer);
-    if r != 0 {
-        assert!(unanswered.bytes() == answer.bytes(), "a refusal wrote an answer");
-    }
-    r
+    judged(answer, |answer| raw::search(state, bytes, answer))
+}
+
+/// Quotient and remainder of a closeness, or the number that refuses it.
+pub fn closeness(state: &Lent, serial: u32, number: u32) -> Result<(u32, u32), u32> {
+    answered(CLOSENESS_ANSWER, |answer| closeness_into(state, serial, number, answer)).map(|a| (word(&a, 0), word(&a, 1)))
+}
+
+pub fn closeness_into(state: &Lent, serial: u32, number: u32, answer: &mut Lent) -> u32 {
+    judged(answer, |answer| raw::closeness(state, serial, number, answer))
 }
 
 /// The fields of a frame to write: any numbers.
@@ -306,11 +307,24 @@ pub fn any_term(state: &[u8], r: &mut Random) -> u32 {
     state_word(state, slot_at(r.below(SLOTS as u64) as usize, HEAD + r.below(CELLS as u64) as usize)) >> 22
 }
 
+/// The serial of any slot of the ring.
+pub fn any_serial(state: &[u8], r: &mut Random) -> u32 {
+    state_word(state, slot_at(r.below(SLOTS as u64) as usize, 1))
+}
+
 pub struct Slot {
     at: usize,
     /// Its words before the cells: time, serial, and size with 64 times the urgency.
     pub head: [u32; HEAD],
     pub cells: [u32; CELLS],
+}
+
+impl Slot {
+    /// Where its words stand.
+    pub fn words(&self) -> impl Iterator<Item = usize> {
+        let at = self.at;
+        (0..SLOT).map(move |i| slot_at(at, i))
+    }
 }
 
 /// The slots of the window, oldest first.

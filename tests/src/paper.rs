@@ -1,5 +1,5 @@
-//! The paper log of the document, a full ranking after each frame, and a search step by step. It shares no code with the engine and is written for
-//! plainness.
+//! The paper log of the document, a full ranking after each frame, a search step by step, and a closeness by its formula. It shares no code with the
+//! engine and is written for plainness.
 
 pub use passage::{Form, Frame};
 use std::collections::VecDeque;
@@ -67,6 +67,27 @@ fn ordered<'a>(ms: impl Iterator<Item = &'a Message>, value: impl Fn(&Message) -
     all.into_iter().map(|(_, m, v)| (m.serial, v as u32)).collect()
 }
 
+// ---- closeness
+
+impl Message {
+    /// Quotient and remainder of 1000 × s² by a × b: s is the sum of weight × count over shared terms, a that of the squared counts, and b that of
+    /// the squared weights.
+    pub fn closeness(&self, q: &Query) -> (u32, u32) {
+        let shared = |&(term, weight): &(u32, u32)| self.pairs.iter().find(|p| p.0 == term).map_or(0, |p| weight as u128 * p.1 as u128);
+        let squares = |all: &[(u32, u32)]| all.iter().map(|p| (p.1 as u128).pow(2)).sum::<u128>();
+        let s: u128 = q.terms.iter().map(shared).sum();
+        let (over, by) = (1000 * s.pow(2), squares(&self.pairs) * squares(&q.terms));
+        ((over / by).try_into().unwrap(), (over % by).try_into().unwrap())
+    }
+
+    /// Whether counts and weights are in proportion, and neither side has a term that the other lacks.
+    pub fn is_in_proportion(&self, q: &Query) -> bool {
+        let (count, weight) = (self.pairs[0].1, q.terms[0].1);
+        let mut both = self.pairs.iter().zip(&q.terms);
+        self.pairs.len() == q.terms.len() && both.all(|(p, t)| p.0 == t.0 && p.1 * weight == t.1 * count)
+    }
+}
+
 // ---- a search
 
 /// What a search finds, and what it came by.
@@ -129,6 +150,13 @@ impl Log {
     /// Where the message stands that is in force at a time under this serial.
     pub fn holder(&self, serial: u32, time: u32) -> Option<usize> {
         self.in_force_at(time).into_iter().find(|&i| self.messages[i].serial == serial)
+    }
+
+    /// The message and the query whose closeness is asked for, or 13 or 10.
+    pub fn compared(&self, serial: u32, number: u32) -> Result<(&Message, &Query), u32> {
+        let at = self.holder(serial, self.clock).ok_or(13u32)?;
+        let query = self.queries.get(number as usize).and_then(Option::as_ref).ok_or(10u32)?;
+        Ok((&self.messages[at], query))
     }
 
     pub fn judge(&self, bytes: &[u8]) -> Result<Frame, u32> {

@@ -286,6 +286,45 @@ pub fn question(r: &mut Random, log: &Log, style: &Style) -> Vec<u8> {
     bytes
 }
 
+/// A serial and a number to ask a closeness by: mostly of a message in force and of a query. The others are serials of messages that left, of none,
+/// or past them all, also what the engine notes of a cancelled message; and numbers that aren't in use or are none.
+pub fn serial_and_number(r: &mut Random, log: &Log) -> (u32, u32) {
+    let now = log.clock;
+    let noted = |i: usize| log.messages[i].serial + ((log.messages[i].pairs.len() as u32) << 20);
+    let serial = match r.below(8) {
+        0 => not_in_force(r, log, now),
+        1 => picked(r, log.filled_at(now)).map_or(1 << 20, noted),
+        2 => r.next() as u32,
+        _ => picked(r, log.in_force_at(now)).map_or(0, |i| log.messages[i].serial),
+    };
+    let number = match r.below(8) {
+        0 => r.next() as u32,
+        1 => picked(r, (0..32).filter(|&q| log.queries[q].is_none())).unwrap_or(32) as u32,
+        _ => picked(r, (0..32).filter(|&q| log.queries[q].is_some())).unwrap_or(0) as u32,
+    };
+    (serial, number)
+}
+
+/// The terms of a query, with weights in proportion to these counts of a message: eight terms at the most, and no weight above 15.
+pub fn near(r: &mut Random, pairs: &[(u32, u32)]) -> Vec<(u32, u32)> {
+    let divisor = (1..=255).rev().find(|d| pairs.iter().all(|p| p.1 % d == 0)).expect("1 divides every count");
+    let top = pairs.iter().map(|p| p.1 / divisor).max().expect("a message has a pair");
+    let factor = 1 + r.below((15 / top).max(1) as u64) as u32;
+    let first = r.below(pairs.len().saturating_sub(8) as u64 + 1) as usize;
+    pairs[first..].iter().take(8).map(|p| (p.0, (p.1 / divisor * factor).min(15))).collect()
+}
+
+/// Alters one thing: a pair goes, another comes, or an amount is one off. There are `most` pairs at the most, and amounts up to `top`.
+pub fn spoil(r: &mut Random, pairs: &mut Vec<(u32, u32)>, most: usize, top: u32) {
+    let (at, other) = (r.below(pairs.len() as u64) as usize, r.below(1024) as u32);
+    match (r.below(4), pairs.binary_search_by_key(&other, |p| p.0)) {
+        (0, _) if pairs.len() > 1 => drop(pairs.remove(at)),
+        (1, Err(place)) if pairs.len() < most => pairs.insert(place, (other, 1 + r.below(top as u64) as u32)),
+        (2, _) if pairs[at].1 > 1 => pairs[at].1 -= 1,
+        _ => pairs[at].1 = pairs[at].1 % top + 1,
+    }
+}
+
 fn picked(r: &mut Random, from: impl IntoIterator<Item = usize>) -> Option<usize> {
     let from: Vec<usize> = from.into_iter().collect();
     (!from.is_empty()).then(|| from[r.below(from.len() as u64) as usize])
@@ -305,7 +344,7 @@ fn not_in_force(r: &mut Random, log: &Log, time: u32) -> u32 {
 }
 
 /// Up to `most` pairs with rising terms out of these and amounts from 1 to `top`.
-fn rising(r: &mut Random, most: usize, terms: Range<u64>, top: u64) -> Vec<(u32, u32)> {
+pub fn rising(r: &mut Random, most: usize, terms: Range<u64>, top: u64) -> Vec<(u32, u32)> {
     let all = terms.end - terms.start;
     let n = 1 + r.below(all.min(most as u64)) as usize;
     let mut ts = BTreeSet::new();

@@ -1,6 +1,6 @@
 //! Single calls: refusals in their order, lengths lent, the writer, and memory that no call left.
 
-use fennelrake_tests::engine::{self, Fields, Lent, FRAME_ANSWER, LIST_ANSWER, LONGEST_FRAME, SEARCH_ANSWER, STATE};
+use fennelrake_tests::engine::{self, Fields, Lent, CLOSENESS_ANSWER, FRAME_ANSWER, LIST_ANSWER, LONGEST_FRAME, SEARCH_ANSWER, STATE};
 use fennelrake_tests::paper::{Form, Frame};
 use fennelrake_tests::random::Random;
 
@@ -371,7 +371,7 @@ fn the_longest_frame() {
 #[test]
 fn foreign_memory() {
     let mut r = Random::new(13);
-    let mut changed = 0;
+    let (mut changed, mut close) = (0, 0);
     for round in 0..200 {
         let bytes = foreign(&mut r, round);
         let mut state = Lent::new(&bytes);
@@ -381,20 +381,24 @@ fn foreign_memory() {
             engine::raw::frame(&mut state, &frame(&mut r), &mut answer);
             changed += (before.bytes() != state.bytes()) as usize;
             let mut answer = Lent::new(&r.bytes(LIST_ANSWER));
-            engine::raw::list(&mut state, r.pick(4, 1 << 32, 32) as u32, &mut answer);
+            engine::raw::list(&state, r.pick(4, 1 << 32, 32) as u32, &mut answer);
             let mut answer = Lent::new(&r.bytes(SEARCH_ANSWER));
             engine::raw::search(&state, &frame(&mut r), &mut answer);
             let (n, term) = (r.pick(4, 64, 2049) as usize, r.pick(8, 1 << 32, 1024) as u32);
-            engine::raw::postings(&mut state, term, &mut Lent::new(&r.bytes(n)));
+            engine::raw::postings(&state, term, &mut Lent::new(&r.bytes(n)));
             // the term of a cell as it stands there, so that there are postings
             let term = engine::any_term(state.bytes(), &mut r);
-            engine::raw::postings(&mut state, term, &mut Lent::new(&r.bytes(n)));
+            engine::raw::postings(&state, term, &mut Lent::new(&r.bytes(n)));
+            // and the serial of a slot, so that there is a message
+            let (serial, number) = (engine::any_serial(state.bytes(), &mut r), r.pick(4, 1 << 32, 32) as u32);
+            close += (engine::raw::closeness(&state, serial, number, &mut Lent::new(&r.bytes(CLOSENESS_ANSWER))) == 0) as usize;
         }
         // a start takes nothing from what the memory held
         assert_eq!(engine::start(&mut state, 3, 100), 0);
         assert!(state.bytes() == fresh().bytes(), "a start left something of foreign memory");
     }
     assert!(changed > 200, "hardly a call took a frame into foreign memory: {changed}");
+    assert!(close > 20, "hardly a message of foreign memory was close to a query: {close}");
 }
 
 fn any_form(r: &mut Random) -> Form {

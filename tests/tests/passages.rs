@@ -1,12 +1,13 @@
-//! Random and hostile sequences of frames: after each one everything is compared with a ranking of the whole log afresh, and after some a search with
-//! the log's.
+//! Random and hostile sequences of frames: after each one everything is compared with a ranking of the whole log afresh, and after some a search and
+//! closenesses with the log's.
 //! FENNELRAKE_SEED picks the seed, FENNELRAKE_ROUNDS how many passages each test runs: `FENNELRAKE_ROUNDS=50 cargo test --release` is a long run.
 
+use fennelrake_tests::board::corners;
 use fennelrake_tests::compare;
 use fennelrake_tests::engine::{self, Lent, Reply, STATE};
 use fennelrake_tests::paper::{asked, routine, Form, Frame, Log, Message, Query, TOP};
 use fennelrake_tests::random::Random;
-use fennelrake_tests::source::{question, Source, Style, ORDER};
+use fennelrake_tests::source::{near, question, serial_and_number, spoil, Source, Style, ORDER};
 
 fn setting(name: &str, otherwise: u64) -> u64 {
     std::env::var(name).map_or(otherwise, |v| v.parse().unwrap_or_else(|_| panic!("{name} must be a number, and is '{v}'")))
@@ -99,6 +100,24 @@ enum Event {
     SearchOfUrgency,
     /// A cancelled message that fills its place has one of the terms.
     SearchPastACancelledOne,
+    /// A closeness is 1,000; between, with a remainder; and 0 for want of a shared term.
+    ClosenessOfAThousand,
+    ClosenessBetween,
+    ClosenessOfNothing,
+    /// It is that of a message in its last second; and of one whose serial a cancelled one has that fills its place.
+    ClosenessInALastSecond,
+    ClosenessBesideACancelledOne,
+    /// It is refused by 13, by the last message that had the serial: it is cancelled and fills its place, aged, or pushed out for N. Or no message
+    /// ever had it; it is what the engine notes in a cancelled one's place; or the number isn't in use either.
+    ClosenessOfACancelledOne,
+    ClosenessOfAPastOne,
+    ClosenessOfOnePushedOut,
+    ClosenessOfAnUnknownOne,
+    ClosenessOfACancelledPlace,
+    ClosenessOfNeither,
+    /// By 10: the number isn't in use, or above 31.
+    ClosenessOfANumberNotInUse,
+    ClosenessOfNoNumber,
     /// A threshold is as high as an impact can be.
     ThresholdAtTheTop,
     /// A message of kind 7 arrives with no more pairs than kind 6 can say.
@@ -116,9 +135,11 @@ enum Event {
     /// It has such a posting, and is listed by a search that asks for no term of its first 16 pairs.
     PostingOfALatePair,
     SearchOfLatePairs,
+    /// A query is close to it by such pairs alone.
+    ClosenessByLatePairs,
 }
 
-const EVENTS: [Event; 70] = [
+const EVENTS: [Event; 84] = [
     Event::SerialUsedAgain,
     Event::TwoInOneSecond,
     Event::LeavingAsOneArrives,
@@ -177,6 +198,19 @@ const EVENTS: [Event; 70] = [
     Event::SearchSeeingAgain,
     Event::SearchOfUrgency,
     Event::SearchPastACancelledOne,
+    Event::ClosenessOfAThousand,
+    Event::ClosenessBetween,
+    Event::ClosenessOfNothing,
+    Event::ClosenessInALastSecond,
+    Event::ClosenessBesideACancelledOne,
+    Event::ClosenessOfACancelledOne,
+    Event::ClosenessOfAPastOne,
+    Event::ClosenessOfOnePushedOut,
+    Event::ClosenessOfAnUnknownOne,
+    Event::ClosenessOfACancelledPlace,
+    Event::ClosenessOfNeither,
+    Event::ClosenessOfANumberNotInUse,
+    Event::ClosenessOfNoNumber,
     Event::ThresholdAtTheTop,
     Event::ArrivalOfFewInKind7,
     Event::LongArrival,
@@ -189,6 +223,7 @@ const EVENTS: [Event; 70] = [
     Event::LeavingReachingByLatePairs,
     Event::PostingOfALatePair,
     Event::SearchOfLatePairs,
+    Event::ClosenessByLatePairs,
 ];
 
 /// Those for which there have to be more than 16 terms: the last ones.
@@ -218,6 +253,28 @@ impl Met {
 
     fn note(&mut self, event: Event, met: bool) {
         self.events[event as usize] += met as usize;
+    }
+
+    /// How close a message is to a query.
+    fn note_close(&mut self, m: &Message, q: &Query, close: (u32, u32)) {
+        self.note(Event::ClosenessOfAThousand, close == (1000, 0));
+        self.note(Event::ClosenessBetween, (1..1000).contains(&close.0) && close.1 > 0);
+        self.note(Event::ClosenessOfNothing, close == (0, 0));
+        self.note(Event::ClosenessByLatePairs, exceeds_by_late_pairs(m, q, &[0; 8]));
+    }
+
+    /// Why no message is in force at a time under a serial: none ever had it, or the last that had it is cancelled and fills its place, aged, or
+    /// pushed out for N.
+    fn note_absent(&mut self, log: &Log, serial: u32, time: u32, [unknown, cancelled, aged, cut]: [Event; 4]) {
+        let Some(at) = log.messages.iter().rposition(|m| m.serial == serial) else {
+            self.note(unknown, true);
+            return;
+        };
+        let (m, pushed_out) = (&log.messages[at], log.messages.len() - at > log.capacity);
+        let past = time - m.time > log.life;
+        self.note(cancelled, m.cancelled && !past && !pushed_out);
+        self.note(aged, !m.cancelled && past && !pushed_out);
+        self.note(cut, !m.cancelled && !past && pushed_out);
     }
 }
 
@@ -306,16 +363,9 @@ impl Passage {
                 met.note(Event::SerialInItsLastSecond, log.in_force().iter().any(|m| time - m.time == log.life && m.serial == serial));
             }
             (13, Ok(Frame::Cancel { time, serial })) => {
-                let Some(at) = log.messages.iter().rposition(|m| m.serial == serial) else {
-                    met.note(Event::CancelledUnknown, true);
-                    return;
-                };
-                let (m, pushed_out) = (&log.messages[at], log.messages.len() - at > log.capacity);
-                let past = time - m.time > log.life;
-                met.note(Event::CancelledTwice, m.cancelled && !past && !pushed_out);
-                met.note(Event::CancelledPast, !m.cancelled && past && !pushed_out);
-                met.note(Event::CancelledASecondLate, time - m.time == log.life + 1 && log.holder(serial, log.clock).is_some());
-                met.note(Event::CancelledPushedOut, !m.cancelled && !past && pushed_out);
+                let holder = log.holder(serial, log.clock).map(|at| &log.messages[at]);
+                met.note(Event::CancelledASecondLate, holder.is_some_and(|m| time - m.time == log.life + 1));
+                met.note_absent(log, serial, time, [Event::CancelledUnknown, Event::CancelledTwice, Event::CancelledPast, Event::CancelledPushedOut]);
             }
             _ => {}
         }
@@ -525,6 +575,44 @@ impl Passage {
         let cancelled = log.filled_at(log.clock).into_iter().map(|i| &log.messages[i]).filter(|m| m.cancelled);
         met.note(Event::SearchPastACancelledOne, cancelled.into_iter().any(|m| m.score(&q) > 0));
     }
+
+    /// The closeness of any serial to any number.
+    fn compare_closeness(&mut self, serial: u32, number: u32) {
+        let (log, met) = (&self.log, &mut self.met);
+        let filled = log.filled_at(log.clock).into_iter().map(|i| &log.messages[i]);
+        let cancelled: Vec<&Message> = filled.filter(|m| m.cancelled).collect();
+        match compare::closeness(&self.state, log, serial, number) {
+            Ok(close) => {
+                let (m, q) = log.compared(serial, number).expect("a closeness that isn't refused");
+                met.note_close(m, q, close);
+                met.note(Event::ClosenessInALastSecond, log.clock - m.time == log.life);
+                met.note(Event::ClosenessBesideACancelledOne, cancelled.iter().any(|c| c.serial == serial));
+            }
+            Err(13) => {
+                let why =
+                    [Event::ClosenessOfAnUnknownOne, Event::ClosenessOfACancelledOne, Event::ClosenessOfAPastOne, Event::ClosenessOfOnePushedOut];
+                met.note_absent(log, serial, log.clock, why);
+                met.note(Event::ClosenessOfACancelledPlace, cancelled.iter().any(|c| c.serial + 1_048_576 * c.pairs.len() as u32 == serial));
+                met.note(Event::ClosenessOfNeither, log.queries.get(number as usize).is_none_or(Option::is_none));
+            }
+            Err(_) => met.note(if number < 32 { Event::ClosenessOfANumberNotInUse } else { Event::ClosenessOfNoNumber }, true),
+        }
+    }
+
+    /// The closeness of a message in force, where there is one, to a query that is made to suit it, often with one thing off.
+    fn compare_near(&mut self, r: &mut Random) {
+        let in_force = self.log.in_force();
+        if in_force.is_empty() {
+            return;
+        }
+        let m = in_force[r.below(in_force.len() as u64) as usize];
+        let mut q = Query { k: 1, terms: near(r, &m.pairs) };
+        if r.one_in(2) {
+            spoil(r, &mut q.terms, 8, 15);
+        }
+        let close = compare::closeness_to(&self.state, &self.log, m.serial, &q, r.below(32) as usize);
+        self.met.note_close(m, &q, close);
+    }
 }
 
 /// Whether a message has more pairs than kinds 1 and 6 can say.
@@ -561,9 +649,11 @@ fn run_from(start: u32, style: Style, frames: usize, own_seed: u64, ruled_out: &
     let mut met = Met::nothing();
     for round in 0..rounds {
         println!("seed {seed}, round {round}");
+        // each generator by itself, so that a seed's frames and questions stay what they are whatever else is asked
         let mut source = Source::new(style, seed.wrapping_add(round));
         let mut r = Random::new(!seed.wrapping_add(round));
         let mut asking = Random::new(seed.wrapping_add(round).rotate_left(32));
+        let mut close = Random::new(seed.wrapping_add(round).rotate_left(16));
         let mut p = Passage::new(style.capacity, style.life);
         p.hand(&tick(start));
         for _ in 0..frames {
@@ -576,6 +666,11 @@ fn run_from(start: u32, style: Style, frames: usize, own_seed: u64, ruled_out: &
                 // the frame itself, be it what it may, or a question
                 let bytes = if asking.one_in(3) { bytes } else { question(&mut asking, &p.log, &style) };
                 p.compare_search(&bytes, asking.below(32) as usize);
+            }
+            if close.one_in(4) {
+                let (serial, number) = serial_and_number(&mut close, &p.log);
+                p.compare_closeness(serial, number);
+                p.compare_near(&mut close);
             }
         }
         met.add(&p.met);
@@ -603,7 +698,7 @@ fn run_from(start: u32, style: Style, frames: usize, own_seed: u64, ruled_out: &
 fn ordinary() {
     let (terms, rare) = (40, 0);
     let style = Style { capacity: 64, life: 200, terms, rare, counts: 9, serials: 200, queries: 32, entries: 16, step: 2, jump: 60, cancels: 18 };
-    run(style, 6000, 14, &[Event::LeftOutBeforeNewcomer]);
+    run(style, 6000, 14, &[Event::LeftOutBeforeNewcomer, Event::ClosenessOfOnePushedOut]);
 }
 
 #[test]
@@ -630,6 +725,7 @@ fn one_message_in_force() {
         Event::LaterPostingBeforeUrgent,
         Event::SearchGoingOnAtTheSum,
         Event::SearchOfUrgency,
+        Event::ClosenessBesideACancelledOne,
     ];
     let style = Style { capacity: 1, life: 50, terms: 40, rare: 34, counts: 3, serials: 4, queries: 8, entries: 16, step: 4, jump: 10, cancels: 18 };
     run(style, 1500, 2, &ruled_out);
@@ -657,6 +753,7 @@ fn one_second_of_life() {
         Event::LaterPostingBeforeUrgent,
         Event::SearchGoingOnAtTheSum,
         Event::SearchOfUrgency,
+        Event::ClosenessOfOnePushedOut,
         Event::LongLeavingForN,
     ];
     let (terms, rare) = (40, 32);
@@ -767,11 +864,6 @@ fn the_clock_at_its_end() {
     p.hand(&message(u32::MAX, 2));
     p.hand(&tick(u32::MAX));
     assert_eq!(listed(&p), [2, 1, 0]);
-}
-
-/// T and a time of arrival, up to the last at which a message can still be seen to go.
-fn corners() -> impl Iterator<Item = (u32, u32)> {
-    [1, 2, 100, 65535].into_iter().flat_map(|life| [0, 20, u32::MAX - life - 1].map(|arrival| (life, arrival)))
 }
 
 /// C8: with T = 100 an arrival at 20 is in force at 120 and gone at 121.

@@ -1,77 +1,17 @@
 //! Searches asked for once: worked ones, ties, ends and refusals. Each is compared with the log's search, posting by posting, and with the query
 //! registered.
 
+use fennelrake_tests::board::{ask, Board, Pairs};
 use fennelrake_tests::compare;
-use fennelrake_tests::engine::{self, word, Lent, FRAME_ANSWER, LIST_ANSWER, SEARCH_ANSWER, STATE};
-use fennelrake_tests::paper::{asked, routine, Form, Frame, Log, Query};
+use fennelrake_tests::engine::{self, word, Lent, SEARCH_ANSWER, STATE};
+use fennelrake_tests::paper::{asked, Form, Frame, Query};
 use fennelrake_tests::random::Random;
-
-type Pairs<'a> = &'a [(u32, u32)];
-
-/// An engine and a log of the same frames.
-struct Board {
-    state: Lent,
-    log: Log,
-}
-
-/// Postings read and list of a search, to be compared.
-type Outcome = (u32, Vec<(u32, u32)>);
-
-fn ask(k: usize, terms: Pairs) -> Vec<u8> {
-    Frame::Register { time: 0, number: 0, k, terms: terms.to_vec() }.bytes()
-}
-
-impl Board {
-    fn new(capacity: u32, life: u32) -> Self {
-        let mut state = Lent::new(&vec![0x5a; STATE]);
-        assert_eq!(engine::start(&mut state, capacity, life), 0);
-        Board { state, log: Log::new(capacity as usize, life) }
-    }
-
-    /// N 256 and T 1,000, with a message a second from serial 1 on.
-    fn of(messages: &[Pairs]) -> Self {
-        let mut b = Board::new(256, 1000);
-        messages.iter().for_each(|pairs| b.message(routine(pairs.len()), pairs));
-        b
-    }
-
-    fn take(&mut self, f: Frame) {
-        assert_eq!(engine::frame(&mut self.state, &f.bytes()).number, 0, "{f:?}");
-        let f = self.log.judge(&f.bytes()).expect("a frame that is accepted");
-        self.log.accept(&f);
-    }
-
-    /// The next message, a second later; its serial is its turn, from 1 on.
-    fn message(&mut self, form: Form, pairs: Pairs) {
-        let (time, serial) = (self.log.clock + 1, self.log.messages.len() as u32 + 1);
-        self.take(Frame::Message { time, serial, form, pairs: pairs.to_vec() });
-    }
-
-    fn cancel(&mut self, serial: u32) {
-        self.take(Frame::Cancel { time: self.log.clock, serial });
-    }
-
-    fn search(&self, k: usize, terms: Pairs) -> Outcome {
-        let found = compare::search(&self.state, &self.log, &ask(k, terms), k % 32).expect("a search that is accepted");
-        (found.read, found.list)
-    }
-}
-
-/// C10's first five frames, after which messages 2, 3 and 4 are in force.
-fn c10() -> Board {
-    let mut b = Board::new(3, 100);
-    b.take(Frame::Register { time: 0, number: 0, k: 2, terms: vec![(5, 1), (9, 2)] });
-    for (time, serial, pairs) in [(10, 1, &[(5, 3), (9, 4)][..]), (20, 2, &[(5, 1)]), (30, 3, &[(9, 1), (40, 1)]), (40, 4, &[(5, 1), (6, 2)])] {
-        b.take(Frame::Message { time, serial, form: Form::Plain, pairs: pairs.to_vec() });
-    }
-    b
-}
 
 // ---- worked searches
 
 #[test]
 fn worked() {
-    let b = c10();
+    let b = Board::c10();
     let both = &[(5, 1), (9, 2)];
     assert_eq!(b.search(1, both), (1, vec![(3, 2828)]));
     assert_eq!(b.search(2, both), (2, vec![(3, 2828), (2, 2000)]));
@@ -346,7 +286,7 @@ fn a_message_for_each_posting() {
 /// A search with everything wrong that can be, mended from one row to the next: of what is wrong the first is told.
 #[test]
 fn refused_in_order() {
-    let b = c10();
+    let b = Board::c10();
     for (mended, number) in [12, 12, 1, 2, 3, 4, 5, 6, 0].into_iter().enumerate() {
         let wrong = |place: usize, bad: u32, good: u32| if mended <= place { bad } else { good };
         let mut state = b.state.bytes().to_vec();
@@ -364,28 +304,17 @@ fn refused_in_order() {
 /// Only state memory of its length is taken, and an answer of at least its length. Of any frame, also one that would be refused, 12 is told first.
 #[test]
 fn lengths_lent() {
-    let b = c10();
+    let b = Board::c10();
     let good = ask(1, &[(5, 1)]);
     for (frame, otherwise) in [(&good[..], 0), (&[], 1), (&[0x20, 0, 0, 7, 0x80], 2), (&good[..7], 3)] {
-        for len in [0, 4, FRAME_ANSWER, STATE - 4, STATE - 1, STATE, STATE + 1, STATE + 4, 2 * STATE] {
-            let mut bytes = b.state.bytes().to_vec();
-            bytes.resize(len, 0);
-            let want = if len == STATE { otherwise } else { 12 };
-            assert_eq!(engine::search(&Lent::new(&bytes), frame).err().unwrap_or(0), want, "{len} bytes of state");
-        }
-        for len in [0, 1, 4, LIST_ANSWER, SEARCH_ANSWER - 1, SEARCH_ANSWER, SEARCH_ANSWER + 1, 4096] {
-            let mut answer = Lent::new(&vec![0x33; len]);
-            let want = if len < SEARCH_ANSWER { 12 } else { otherwise };
-            assert_eq!(engine::search_into(&b.state, frame, &mut answer), want, "{len} bytes of answer");
-            assert!(answer.bytes().iter().skip(SEARCH_ANSWER).all(|&b| b == 0x33), "bytes past the answer changed");
-        }
+        b.assert_lengths(SEARCH_ANSWER, otherwise, |state, answer| engine::search_into(state, frame, answer));
     }
 }
 
 /// Every kind but 3, with lengths around each boundary: whole frames of these kinds, and what isn't one in any way.
 #[test]
 fn every_other_kind() {
-    let b = c10();
+    let b = Board::c10();
     let whole = [
         Frame::Message { time: 50, serial: 9, form: Form::Plain, pairs: vec![(5, 1), (9, 1)] },
         Frame::Tick { time: 50 },
@@ -419,7 +348,7 @@ fn every_other_kind() {
 /// Frames of kind 3 with any bytes, most of them malformed: the number is that of the reader written from the document.
 #[test]
 fn any_bytes() {
-    let b = c10();
+    let b = Board::c10();
     let mut r = Random::new(32);
     let mut met = [0usize; 15];
     for len in 0..40 {
@@ -445,7 +374,7 @@ fn any_bytes() {
 /// Neither a time below the clock nor a number in use is refused, and neither alters what is found.
 #[test]
 fn time_and_number_ignored() {
-    let mut b = c10();
+    let mut b = Board::c10();
     for number in 1..32 {
         b.take(Frame::Register { time: 40, number, k: 16, terms: vec![(40, 1)] });
     }
@@ -537,7 +466,7 @@ fn foreign_memory() {
         let mut bytes = match round % 3 {
             0 => r.bytes(STATE),
             1 => vec![[0x00, 0xff, 0x80, 0x01, 0x11][round / 3 % 5]; STATE],
-            _ => c10().state.bytes().to_vec(),
+            _ => Board::c10().state.bytes().to_vec(),
         };
         // of the words that steer a search: N, oldest and count, and serial, size and cells of slots
         for _ in 0..r.below(40) {

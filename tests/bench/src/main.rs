@@ -1,5 +1,6 @@
 //! The proved engine against unverified methods, all in one run. The tables are printed as docs/PERFORMANCE.md has them.
 
+mod closeness;
 mod count;
 mod eager;
 mod full;
@@ -25,10 +26,11 @@ fn main() {
         [] => report::print(PLOT),
         ["--count"] => count::print(),
         ["--search"] => search::print(),
+        ["--closeness"] => closeness::print(),
         ["--earlier", path] => report::beside_earlier(path),
         [path] if !path.starts_with('-') => report::print(path),
         _ => {
-            eprintln!("usage: bench [--count | --search | --earlier LIBRARY.so | PLOT.svg]");
+            eprintln!("usage: bench [--count | --search | --closeness | --earlier LIBRARY.so | PLOT.svg]");
             std::process::exit(2);
         }
     }

@@ -1,4 +1,5 @@
-//! The methods run in turn over the same frames, and their times beside the proved engine's; and the proved engine in turn over two sorts of frames.
+//! The methods run in turn over the same frames, and their times beside the proved engine's; the proved engine in turn over two sorts of frames; and
+//! ways of asking for the same.
 
 use crate::eager::Eager;
 use crate::full::Full;
@@ -8,6 +9,7 @@ use crate::plain::{Method, Plain, Walk, Wide};
 use crate::proved::{Earlier, Engine, Proved};
 use crate::tables::Tables;
 use crate::workload::{Passage, Setting};
+use std::hint::black_box;
 use std::time::Instant;
 
 /// How many messages make a part, which divides all that are measured: of each part the best round counts, as others may use the machine.
@@ -64,6 +66,29 @@ impl Best {
     fn seconds(&self) -> f64 {
         self.0.iter().sum()
     }
+}
+
+/// A way of asking, and its name.
+pub type Way<B, Q> = (&'static str, fn(&mut B, &Q));
+
+/// How often ways of asking take their turns.
+const TURNS: usize = 25;
+
+/// The seconds that all questions take, way by way: the ways take turns, so many questions at once, and of each such part the best turn counts.
+pub fn in_turn<B, Q, const W: usize>(b: &mut B, questions: &[Q], part: usize, ways: &[Way<B, Q>; W]) -> [f64; W] {
+    let mut seconds = [0.0; W];
+    for part in questions.chunks(part) {
+        let mut bests = [f64::MAX; W];
+        for _ in 0..TURNS {
+            for (best, (_, way)) in bests.iter_mut().zip(ways) {
+                let t = Instant::now();
+                part.iter().for_each(|q| way(b, black_box(q)));
+                *best = best.min(t.elapsed().as_secs_f64());
+            }
+        }
+        seconds.iter_mut().zip(bests).for_each(|(all, best)| *all += best);
+    }
+    seconds
 }
 
 /// What a rival has in common with the proved engine: each of these has the ones before it, too.

@@ -1,7 +1,7 @@
 //! The proved engine, as a C host calls it: of the archive that the bench is linked with, or of an earlier one.
 
 use crate::plain::Method;
-use fennelrake_tests::engine::{word, FRAME_ANSWER, LIST_ANSWER, SEARCH_ANSWER, STATE};
+use fennelrake_tests::engine::{word, CLOSENESS_ANSWER, FRAME_ANSWER, LIST_ANSWER, SEARCH_ANSWER, STATE};
 use std::ffi::{c_char, c_int, c_void, CStr, CString};
 use std::marker::PhantomData;
 use std::sync::OnceLock;
@@ -15,6 +15,7 @@ extern "C" {
     fn fennelrake_frame(state: *mut u8, state_len: usize, bytes: *const u8, bytes_len: usize, answer: *mut u8, answer_len: usize) -> u32;
     fn fennelrake_list(state: *const u8, state_len: usize, number: u32, answer: *mut u8, answer_len: usize) -> u32;
     fn fennelrake_search(state: *const u8, state_len: usize, frame: *const u8, frame_len: usize, answer: *mut u8, answer_len: usize) -> u32;
+    fn fennelrake_closeness(state: *const u8, state_len: usize, serial: u32, number: u32, answer: *mut u8, answer_len: usize) -> u32;
     fn dlopen(path: *const c_char, flags: c_int) -> *mut c_void;
     fn dlsym(library: *mut c_void, name: *const c_char) -> *mut c_void;
 }
@@ -94,13 +95,23 @@ pub struct Engine<A> {
 
 pub type Proved = Engine<Linked>;
 
+/// What an earlier archive may not have.
 impl Proved {
-    /// The answer of a search, which an earlier archive may not have.
+    /// The answer of a search.
     pub fn search(&self, bytes: &[u8]) -> [u8; SEARCH_ANSWER] {
         let mut answer = [0; SEARCH_ANSWER];
         // SAFETY: each pointer and length are of one slice, and the slices don't overlap
         let number = unsafe { fennelrake_search(self.state.as_ptr(), STATE, bytes.as_ptr(), bytes.len(), answer.as_mut_ptr(), SEARCH_ANSWER) };
         assert_eq!(number, 0);
+        answer
+    }
+
+    /// The answer of a closeness.
+    pub fn closeness(&self, serial: u32, number: u32) -> [u8; CLOSENESS_ANSWER] {
+        let mut answer = [0; CLOSENESS_ANSWER];
+        // SAFETY: as above
+        let refusal = unsafe { fennelrake_closeness(self.state.as_ptr(), STATE, serial, number, answer.as_mut_ptr(), CLOSENESS_ANSWER) };
+        assert_eq!(refusal, 0);
         answer
     }
 }

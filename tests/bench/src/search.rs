@@ -2,6 +2,7 @@
 //! and beside registering the query, reading its list and dropping it.
 
 use crate::full::Full;
+use crate::measure::{in_turn, Way};
 use crate::plain::{rank, Entry, Look, Method, Plain, Query, Walk, Wide, Window};
 use crate::proved::Proved;
 use crate::workload::{query, Passage, Setting, Workload, SEED, WORKLOADS};
@@ -9,14 +10,12 @@ use fennelrake_tests::engine::word;
 use fennelrake_tests::random::Random;
 use passage::Frame;
 use std::hint::black_box;
-use std::time::Instant;
 
 const CAPACITY: usize = 256;
 const QUERIES: usize = 400;
 
-/// So many searches are timed at once, and of each such part the best round counts.
+/// So many searches are timed at once.
 const PART: usize = 20;
-const ROUNDS: usize = 25;
 
 /// The time that messages and queries are of: none ages.
 const NOW: u32 = CAPACITY as u32;
@@ -130,9 +129,7 @@ fn counted(b: &mut Boards, questions: &[Question]) -> (usize, usize) {
     (read, all)
 }
 
-type Way = fn(&mut Boards, &Question);
-
-const WAYS: [(&str, Way); 5] = [
+const WAYS: [Way<Boards, Question>; 5] = [
     ("search", |b, q| {
         black_box(b.proved.search(&q.register));
     }),
@@ -146,27 +143,10 @@ const WAYS: [(&str, Way); 5] = [
     }),
 ];
 
-/// The seconds that all questions take, way by way: the ways take turns, part by part.
-fn timed(b: &mut Boards, questions: &[Question]) -> [f64; WAYS.len()] {
-    let mut seconds = [0.0; WAYS.len()];
-    for part in questions.chunks(PART) {
-        let mut bests = [f64::MAX; WAYS.len()];
-        for _ in 0..ROUNDS {
-            for (best, (_, way)) in bests.iter_mut().zip(WAYS) {
-                let t = Instant::now();
-                part.iter().for_each(|q| way(b, black_box(q)));
-                *best = best.min(t.elapsed().as_secs_f64());
-            }
-        }
-        seconds.iter_mut().zip(bests).for_each(|(all, best)| *all += best);
-    }
-    seconds
-}
-
 fn row(p: &Passage, questions: &[Question]) {
     let mut b = Boards::new(p);
     let (read, all) = counted(&mut b, questions);
-    let seconds = timed(&mut b, questions);
+    let seconds = in_turn(&mut b, questions, PART, &WAYS);
     let ratios: Vec<_> = seconds[1..].iter().map(|s| format!("{:.2}", s / seconds[0])).collect();
     let each = |n: usize| n as f64 / questions.len() as f64;
     println!(

@@ -76,10 +76,10 @@ fn rising(r: &mut Random, n: u64, terms: u64, most: u64) -> Vec<(u32, u32)> {
     ts.into_iter().map(|t| (t, 1 + r.below(most) as u32)).collect()
 }
 
-/// As many terms as a message can have, with the same amounts.
-fn most_pairs(r: &mut Random, terms: u64, most: u64) -> Vec<(u32, u32)> {
+/// Exactly n terms, with the same amounts.
+pub fn exactly(r: &mut Random, n: usize, terms: u64, most: u64) -> Vec<(u32, u32)> {
     let mut ts = BTreeSet::new();
-    while ts.len() < 32 {
+    while ts.len() < n {
         ts.insert(r.below(terms) as u32);
     }
     ts.into_iter().map(|t| (t, 1 + r.below(most) as u32)).collect()
@@ -130,7 +130,7 @@ impl Passage {
         }
         for i in 0..(setting.capacity + more) as u32 {
             let (form, pairs) = if long {
-                (Form::Long(0), most_pairs(r, terms, count))
+                (Form::Long(0), exactly(r, 32, terms, count))
             } else {
                 let n = 4 + r.below(9);
                 (forms(i), rising(r, n, terms, count))

@@ -12,8 +12,8 @@
 //! bytes 20 00 00 07 81                    a frame of any bytes, in hexadecimal
 //! ```
 //!
-//! What follows a `#` and empty lines are left out. A search is no line: a session takes frames alone, and a host asks for one by the bytes of a
-//! register frame.
+//! What follows a `#` and empty lines are left out. A search is no line, nor is a closeness: a session takes frames alone, and a host asks for a search
+//! by the bytes of a register frame.
 
 use crate::{Form, Frame};
 

@@ -64,8 +64,9 @@ fn frames() {
     for (line, want) in [
         ("tock 5", "'tock' is no kind of frame: message, long, tick, register, drop, cancel or bytes"),
         ("engine 3 100", "'engine' is no kind of frame: message, long, tick, register, drop, cancel or bytes"),
-        // a session asks for none
+        // a session asks for neither
         ("search k 2 5:1 9:2", "'search' is no kind of frame: message, long, tick, register, drop, cancel or bytes"),
+        ("closeness serial 2 query 0", "'closeness' is no kind of frame: message, long, tick, register, drop, cancel or bytes"),
         ("tick", "the time is missing"),
         ("tick 4294967296", "the time must be a number from 0 to 4294967295, and is '4294967296'"),
         ("tick -1", "the time must be a number from 0 to 4294967295, and is '-1'"),
