@@ -1,6 +1,6 @@
 -- Closeness never exceeds the whole, and is the whole exactly where counts and weights are in proportion. Assumes nothing.
 use Prim.Native.Nat.{ℕ, zero, suc, _+_, _*_, _^_, _/_, _%_, _≤_, _<_}
-use native.Mathlib.Nat.{not-suc-le-zero, mul-pos, mul-zero, zero-mul, le-refl, div-le-of-le-mul, div-add-mod, div-eq-of-eq-mul-right, mul-mod-right}
+use native.Mathlib.Nat.{not-suc-le-zero, mul-pos, mul-zero, zero-mul, le-refl, div-le-of-le-mul, div-add-mod, div-eq-of-eq-mul-right, mul-mod-right, zero-div, zero-mod}
 use native.Mathlib.Omega.{arith}
 use mathlib.Core.Path.{_≡_, refl, sym, ap, ap₂, _∙_}
 use mathlib.Core.Logic.{_↔_, inl, inr, ⊎-elim}
@@ -121,6 +121,19 @@ lacks-none xs ys alike ex ly ey t i =
     factor a zero h = absurd (omega arith)
     factor a (suc b) h = omega arith
 
+-- what is shared adds to the sum, and nothing else does
+shared-above : (ps qs : List Pair) → positive qs ≡ true → (t : ℕ) → In t (terms qs) → 0 < countOf t ps → 0 < sharedSum qs ps
+unfolding positive scoreBy
+shared-above ps (q ∷ qs) e t i h =
+    let z = and-true (ltb 0 (q .amount)) (positive qs) e in
+    ⊎-elim (λ here. let m = mul-pos (ltb-true 0 (q .amount) (z .0)) (rw here at h) in omega arith)
+    (λ later. let ih = shared-above ps qs (z .1) t later h in omega arith) i
+
+shared-none : (ps qs : List Pair) → ((t : ℕ) → In t (terms qs) → countOf t ps ≡ 0) → sharedSum qs ps ≡ 0
+unfolding scoreBy
+shared-none ps [] f = refl
+shared-none ps (q ∷ qs) f = let ih = shared-none ps qs (λ t i. f t (inr i)) in rw (f (q .term) (inl refl)) (omega arith)
+
 -- ---- closeness
 
 -- for every message and query, of any lengths and widths of amounts
@@ -196,3 +209,22 @@ module _ {v w m n : ℕ} (qs ps : List Pair) (q : Pairs w n qs) (p : Pairs v m p
         let alike = alike-equal (λ t. countOf t ps) (λ t. countOf t qs) (2 ^ termWidth) (λ t t′ h h′. e .in-proportion t t′) in
         equal-whole (rw (shared (2 ^ termWidth) b, counts (2 ^ termWidth) b, weights (2 ^ termWidth) b) alike),
   )
+
+  -- it is nothing exactly where no term is shared
+  pub nothing-exactly : ((closeness qs ps .quotient ≡ 0) × (closeness qs ps .remainder ≡ 0)) ↔ ((t : ℕ) → In t (terms ps) → In t (terms qs) → ⊥)
+  unfolding closeness
+  nothing-exactly = (
+    λ e t i j.
+        let d = div-add-mod (dividend qs ps) (divisor qs ps) in
+        let z : divisor qs ps * 0 + 0 ≡ dividend qs ps = rw (e .0, e .1) at d in
+        let above = shared-above ps qs (q .above-zero) t j (has-amount t ps (p .above-zero) .0 i) in
+        let product = mul-pos above above in
+        omega arith,
+    λ apart.
+        let none : s ≡ 0 = shared-none ps qs (λ t j. lacking t (countOf t ps) (λ h. apart t (has-amount t ps (p .above-zero) .1 h) j)) in
+        rw none (zero-div (divisor qs ps), zero-mod (divisor qs ps)),
+  )
+    where
+      lacking : (t n : ℕ) → (0 < n → ⊥) → n ≡ 0
+      lacking t zero f = refl
+      lacking t (suc n) f = absurd (f (omega arith))
