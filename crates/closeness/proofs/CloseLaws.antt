@@ -1,16 +1,16 @@
 -- The sums that closeness is made of: how large they get, and that they are the paper's where a slot holds a message. Assumes nothing.
-use Prim.Native.Nat.{ℕ, zero, suc, _+_, _*_, _/_, _%_, _^_, _≤_, _<_, min, max}
+use Prim.Native.Nat.{ℕ, zero, suc, _+_, _*_, _/_, _%_, _≤_, _<_, max}
 use native.Mathlib.Nat.{mul-le-mul, min-le-right, min-eq-left}
 use native.Mathlib.Omega.{arith}
 use mathlib.Core.Path.{_≡_, refl, sym, ap, _∙_}
 use mathlib.Core.List.{List, [], _∷_}
-use lib.ListN.{length, getD}
+use lib.ListN.{length}
 use Rattle.paper.specs.Frame.{Pair, Pairs, countWidth, mostPairs}
 use Rattle.paper.specs.Impact.{squares, countOf, scoreBy}
 use Rattle.paper.specs.Window.{Message}
 use Rattle.paper.specs.Rank as Rank
 use Rattle.paper.specs.Sound.{Terms}
-use Rattle.paper.specs.Closeness.{whole, sharedSum, divisor, closeness}
+use Rattle.paper.specs.Closeness.{whole, sharedSum, closeness}
 use Rattle.paper.proofs.ClosenessLaws.{positive-divisor, quotient-most}
 use Rattle.impact.specs.Cell.{mostSquares, cellsOf, squaresOf, cellSquares}
 use Rattle.impact.proofs.CellLaws.{count-cells, squares-cells, squares-side}

@@ -1,21 +1,21 @@
 -- A closeness: what it answers by its lengths and its serial, and where the memory holds a log. Assumes nothing.
 use Prim.Native.Nat.{ℕ, _≤_, _<_, _^_}
 use native.Mathlib.Omega.{arith}
-use mathlib.Core.Path.{_≡_, refl, sym, ap, _∙_, subst}
+use mathlib.Core.Path.{_≡_, refl, sym, ap, _∙_}
 use mathlib.Core.Logic.{⊎-elim}
 use mathlib.Core.Bool.{Bool, true, false, cond, true≢false}
 use mathlib.Core.List.{List, [], _∷_, map}
 use mathlib.Core.Option.{Option, none, some}
 use lib.ListN.{length, getD, drop}
 use lib.Dec.{eqb}
-use borrow.Author.Tests.{eq-eqb, ne-eqb, eqb-true, eqb-false}
+use borrow.Author.Tests.{eq-eqb, ne-eqb, eqb-true}
 use Rattle.paper.specs.Frame.{Pairs, countWidth, mostPairs, serialWidth}
 use Rattle.paper.specs.Window.{Message}
 use Rattle.paper.specs.Rank as Rank
 use Rattle.paper.specs.Layout.{stateLength, slots}
 use Rattle.paper.specs.Sort.{select}
 use Rattle.paper.specs.Log.{Log, inForceNow, filledNow, hasSerial, queryAt, inUse, seen}
-use Rattle.paper.specs.Closeness.{closeness, pairsOf, judgeCloseness, unasked, closenessIn}
+use Rattle.paper.specs.Closeness.{closeness, pairsOf, judgeCloseness, closenessIn}
 use Rattle.paper.specs.Sound.{Messages}
 use Rattle.paper.proofs.Tests.{by-bool}
 use Rattle.paper.proofs.LogLaws.{filled-valid, in-force-valid}

@@ -1,10 +1,9 @@
 -- Newton's iteration for a root in whole numbers: no guess after a step is below the root, and where none falls any more the root is found.
 -- Assumes nothing.
-use Prim.Native.Nat.{ℕ, zero, suc, _+_, _-_, _*_, _/_, _≤_, _<_, min}
+use Prim.Native.Nat.{ℕ, zero, suc, _+_, _*_, _/_, _≤_, _<_, min}
 use native.Mathlib.Nat.{
   add-mul,
   mul-add,
-  mul-comm,
   div-one,
   not-suc-le-zero,
   lt-suc-self,

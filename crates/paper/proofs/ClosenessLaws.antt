@@ -1,14 +1,14 @@
 -- Closeness never exceeds the whole, and is the whole exactly where counts and weights are in proportion. Assumes nothing.
-use Prim.Native.Nat.{ℕ, zero, suc, _+_, _*_, _^_, _/_, _%_, _≤_, _<_}
-use native.Mathlib.Nat.{not-suc-le-zero, mul-pos, mul-zero, zero-mul, le-refl, div-le-of-le-mul, div-add-mod, div-eq-of-eq-mul-right, mul-mod-right, zero-div, zero-mod}
+use Prim.Native.Nat.{ℕ, zero, suc, _+_, _*_, _^_, _≤_, _<_}
+use native.Mathlib.Nat.{not-suc-le-zero, mul-pos, zero-mul, le-refl, div-le-of-le-mul, div-add-mod, div-eq-of-eq-mul-right, mul-mod-right, zero-div, zero-mod}
 use native.Mathlib.Omega.{arith}
-use mathlib.Core.Path.{_≡_, refl, sym, ap, ap₂, _∙_}
+use mathlib.Core.Path.{_≡_, refl, sym, ap, _∙_}
 use mathlib.Core.Logic.{_↔_, inl, inr, ⊎-elim}
 use mathlib.Core.Bool.{Bool, true, false, cond}
-use mathlib.Core.List.{List, [], _∷_, map}
+use mathlib.Core.List.{List, [], _∷_}
 use lib.ListN.{length}
-use lib.Dec.{eqb, leb, ltb}
-use borrow.Author.Tests.{ltb-true, leb-true, eqb-true, eqb-false, eq-eqb, ne-eqb}
+use lib.Dec.{eqb, ltb}
+use borrow.Author.Tests.{ltb-true, eqb-true, eqb-false, ne-eqb}
 use Rattle.paper.specs.Frame.{Pair, Pairs, AllFit, termWidth, positive, rises}
 use Rattle.paper.specs.Impact.{squares, countOf, scoreBy}
 use Rattle.paper.specs.Order.{In}
@@ -96,7 +96,7 @@ squares-positive (p ∷ ps) l e =
     omega arith
 
 -- a term that pairs have has an amount
-pub has-amount : (t : ℕ) (ps : List Pair) → positive ps ≡ true → In t (terms ps) ↔ (0 < countOf t ps)
+has-amount : (t : ℕ) (ps : List Pair) → positive ps ≡ true → In t (terms ps) ↔ (0 < countOf t ps)
 unfolding positive countOf
 has-amount t [] e = (λ i. absurd i, λ h. absurd (not-suc-le-zero h))
 has-amount t (p ∷ ps) e = let z = and-true (ltb 0 (p .amount)) (positive ps) e in go (eqb (p .term) t) refl (z .0) (has-amount t ps (z .1))
@@ -141,27 +141,35 @@ module _ {v w m n : ℕ} (qs ps : List Pair) (q : Pairs w n qs) (p : Pairs v m p
   abbrev s : ℕ
   s = sharedSum qs ps
 
+  abbrev count : ℕ → ℕ
+  count t = countOf t ps
+
+  abbrev weight : ℕ → ℕ
+  weight t = countOf t qs
+
   pub positive-divisor : 0 < divisor qs ps
   positive-divisor = mul-pos (squares-positive ps (p .least-one) (p .above-zero)) (squares-positive qs (q .least-one) (q .above-zero))
 
   -- s, a and b as sums over all terms below a bound
   module _ (bound : ℕ) (l : 2 ^ termWidth ≤ bound) where
-    counts : squares ps ≡ sum (λ t. countOf t ps * countOf t ps) bound
+    counts : squares ps ≡ sum (λ t. count t * count t) bound
     counts = squares-over ps ∙ over-terms (λ a t. a * a) (λ t. refl) v 0 bound ps (p .fit) (p .in-order) l
 
-    weights : squares qs ≡ sum (λ t. countOf t qs * countOf t qs) bound
+    weights : squares qs ≡ sum (λ t. weight t * weight t) bound
     weights = squares-over qs ∙ over-terms (λ a t. a * a) (λ t. refl) w 0 bound qs (q .fit) (q .in-order) l
 
-    shared : s ≡ sum (λ t. countOf t qs * countOf t ps) bound
-    shared =
-        score-over (λ t. countOf t ps) qs
-        ∙ over-terms (λ a t. a * countOf t ps) (λ t. zero-mul (countOf t ps)) w 0 bound qs (q .fit) (q .in-order) l
+    shared : s ≡ sum (λ t. weight t * count t) bound
+    shared = score-over count qs ∙ over-terms (λ a t. a * count t) (λ t. zero-mul (count t)) w 0 bound qs (q .fit) (q .in-order) l
+
+  abbrev limit : ℕ
+  limit = 2 ^ termWidth
+
+  all : limit ≤ limit
+  all = le-refl limit
 
   -- s² ≤ a × b
   pub schwarz : s * s ≤ divisor qs ps
-  schwarz =
-      let b = le-refl (2 ^ termWidth) in
-      rw (shared (2 ^ termWidth) b, counts (2 ^ termWidth) b, weights (2 ^ termWidth) b) (cauchy (λ t. countOf t ps) (λ t. countOf t qs) (2 ^ termWidth))
+  schwarz = rw (shared limit all, counts limit all, weights limit all) (cauchy count weight limit)
 
   -- "The quotient is shown never to exceed 1,000"
   pub quotient-most : closeness qs ps .quotient ≤ whole
@@ -185,14 +193,20 @@ module _ {v w m n : ℕ} (qs ps : List Pair) (q : Pairs w n qs) (p : Pairs v m p
       let d : dividend qs ps ≡ divisor qs ps * whole = rw e (omega arith) in
       (div-eq-of-eq-mul-right positive-divisor d, rw d (mul-mod-right (divisor qs ps) whole))
 
-  equal-terms : divisor qs ps ≤ s * s → (t t′ : ℕ) → countOf t ps * countOf t′ qs ≡ countOf t′ ps * countOf t qs
-  equal-terms e t t′ =
-      let bound : ℕ = 2 ^ termWidth + suc t + suc t′ in
-      let l : 2 ^ termWidth ≤ bound = omega arith in
-      equal-alike (λ t. countOf t ps) (λ t. countOf t qs) bound (rw (shared bound l, counts bound l, weights bound l) at e) t t′ (omega arith) (omega arith)
+  abbrev Alike : Type 0
+  Alike = (t t′ : ℕ) → count t * weight t′ ≡ count t′ * weight t
 
-  terms-equal : ((t t′ : ℕ) → countOf t ps * countOf t′ qs ≡ countOf t′ ps * countOf t qs) → Proportional qs ps
-  terms-equal alike = record {
+  equal-terms : divisor qs ps ≤ s * s → Alike
+  equal-terms e t t′ =
+      let bound : ℕ = limit + suc t + suc t′ in
+      let l : limit ≤ bound = omega arith in
+      equal-alike count weight bound (rw (shared bound l, counts bound l, weights bound l) at e) t t′ (omega arith) (omega arith)
+
+  terms-equal : Alike → s * s ≡ divisor qs ps
+  terms-equal alike = rw (shared limit all, counts limit all, weights limit all) (alike-equal count weight limit (λ t t′ h h′. alike t t′))
+
+  proportional : Alike → Proportional qs ps
+  proportional alike = record {
     same-terms = λ t. (
       lacks-none ps qs alike (p .above-zero) (q .least-one) (q .above-zero) t,
       lacks-none qs ps (λ t t′. omega (arith, alike t′ t)) (q .above-zero) (p .least-one) (p .above-zero) t,
@@ -202,13 +216,7 @@ module _ {v w m n : ℕ} (qs ps : List Pair) (q : Pairs w n qs) (p : Pairs v m p
 
   -- "and to be 1,000 with remainder 0 exactly when counts and weights are in proportion and neither has a term the other lacks"
   pub whole-exactly : Whole ↔ Proportional qs ps
-  whole-exactly = (
-    λ e. terms-equal (equal-terms (whole-equal e)),
-    λ e.
-        let b = le-refl (2 ^ termWidth) in
-        let alike = alike-equal (λ t. countOf t ps) (λ t. countOf t qs) (2 ^ termWidth) (λ t t′ h h′. e .in-proportion t t′) in
-        equal-whole (rw (shared (2 ^ termWidth) b, counts (2 ^ termWidth) b, weights (2 ^ termWidth) b) alike),
-  )
+  whole-exactly = (λ e. proportional (equal-terms (whole-equal e)), λ e. equal-whole (terms-equal (e .in-proportion)))
 
   -- it is nothing exactly where no term is shared
   pub nothing-exactly : ((closeness qs ps .quotient ≡ 0) × (closeness qs ps .remainder ≡ 0)) ↔ ((t : ℕ) → In t (terms ps) → In t (terms qs) → ⊥)
@@ -221,10 +229,10 @@ module _ {v w m n : ℕ} (qs ps : List Pair) (q : Pairs w n qs) (p : Pairs v m p
         let product = mul-pos above above in
         omega arith,
     λ apart.
-        let none : s ≡ 0 = shared-none ps qs (λ t j. lacking t (countOf t ps) (λ h. apart t (has-amount t ps (p .above-zero) .1 h) j)) in
+        let none : s ≡ 0 = shared-none ps qs (λ t j. lacking (count t) (λ h. apart t (has-amount t ps (p .above-zero) .1 h) j)) in
         rw none (zero-div (divisor qs ps), zero-mod (divisor qs ps)),
   )
     where
-      lacking : (t n : ℕ) → (0 < n → ⊥) → n ≡ 0
-      lacking t zero f = refl
-      lacking t (suc n) f = absurd (f (omega arith))
+      lacking : (n : ℕ) → (0 < n → ⊥) → n ≡ 0
+      lacking zero f = refl
+      lacking (suc n) f = absurd (f (omega arith))

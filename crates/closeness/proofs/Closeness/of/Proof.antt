@@ -1,13 +1,12 @@
 -- `Closeness::of` meets its contract. Assumes nothing.
-use Prim.Native.Nat.{ℕ, _<_, _^_}
+use Prim.Native.Nat.{_^_}
 use native.Mathlib.Omega.{arith}
-use mathlib.Core.Path.{_≡_, sym}
-use lib.ListN.{length, getD}
+use mathlib.Core.Path.{_≡_}
+use lib.ListN.{length}
 use borrow.Author.Needs.{needs, length-unmapped}
 use Rattle.paper.specs.Frame.{countWidth}
 use Rattle.rank.specs.Weights.{mostWeight, Below}
 use Rattle.rank.proofs.SumLaws.{sum-most}
-use Rattle.closeness.specs.Post.{countIn}
 use Rattle.closeness.proofs.CloseLaws.{compared}
 use Rattle.closeness.proofs.Closeness.of.Statement.{statement}
 use Rattle.closeness.proofs.Closeness.of.Tie as tie
