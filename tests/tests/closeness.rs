@@ -325,7 +325,7 @@ fn random_pairs() {
 }
 
 /// Memory that no call left, in one word or in two: a message without a pair or a count, a query without a term or a weight, and sizes above all.
-/// It is safe and leaves the state as it is. What it answers isn't fixed.
+/// It is safe and leaves the state as it is, and no quotient is above 1,000. What else it answers isn't fixed.
 #[test]
 fn foreign_memory() {
     let mut b = Board::new(3, 100);
@@ -339,7 +339,9 @@ fn foreign_memory() {
         for word in words {
             let mut bytes = b.state.bytes().to_vec();
             [i, j].into_iter().for_each(|i| bytes[4 * i..4 * i + 4].copy_from_slice(&u32::to_le_bytes(word)));
-            let number = engine::closeness_into(&Lent::new(&bytes), 7, 0, &mut Lent::new(&[0xa5; CLOSENESS_ANSWER]));
+            let mut answer = Lent::new(&[0xa5; CLOSENESS_ANSWER]);
+            let number = engine::closeness_into(&Lent::new(&bytes), 7, 0, &mut answer);
+            assert!(number != 0 || engine::word(answer.bytes(), 0) <= 1000);
             met[number as usize] += 1;
         }
     }
