@@ -9,13 +9,14 @@ use lib.Dec.{eqb, ltb}
 use mathlib.Core.Logic.{_⊎_, inl, inr, ⊎-elim}
 use borrow.Author.Tests.{not-true, not-false, eqb-true, eq-eqb, ne-eqb, lt-ltb, le-ltb}
 use Rattle.paper.proofs.Tests.{by-bool}
+use Rattle.paper.proofs.Tests as Tests
 use Rattle.paper.proofs.SortLaws.{in-right}
 use Rattle.paper.specs.Order.{In}
 use Rattle.paper.specs.Sort.{select}
 use Rattle.paper.specs.Window.{past}
 use Rattle.paper.specs.Layout.{slots, cellCountAt, cellLimit}
 use Rattle.window.specs.Slot.{Slot, slot, sizeAt, next, ring, window, live, dropPast, seek, holdsSerial}
-use Rattle.window.proofs.RingLaws.{ring-step, ring-none, ring-cut, ring-last}
+use Rattle.window.proofs.RingLaws.{ring-step, ring-none, ring-append, ring-cut, ring-last}
 
 module _ (w : List ℕ) (o n : ℕ) (some : 0 < n) where
   window-step : window w o n ≡ slot w o ∷ window w (next o) (n - 1)
@@ -81,6 +82,20 @@ module _ (w : List ℕ) (s o n : ℕ) where
     pub seek-next : (x ≡ s → ⊥) → {p : ℕ} → p ≡ next o → seek w s (ring p (n - 1)) ≡ seek w s (ring o n)
     unfolding seek
     seek-next ne e = rw (e, ring-step o n some, ne-eqb (slot w o .serial) s (λ z. ne (read ∙ z)))
+
+-- slots that don't have it are passed over
+seek-past : (w : List ℕ) (s : ℕ) (xs ys : List ℕ) → holdsSerial s (map (slot w) xs) ≡ false → seek w s (xs ++ ys) ≡ seek w s ys
+unfolding seek holdsSerial
+seek-past w s [] ys e = refl
+seek-past w s (x ∷ xs) ys e = let z = Tests.or-false (eqb (slot w x .serial) s) (holdsSerial s (map (slot w) xs)) e in rw (z .0) (seek-past w s xs ys (z .1))
+
+pub seek-run : (w : List ℕ) (s o n run : ℕ) → o < slots → run ≤ n → {b : Bool} → b ≡ holdsSerial s (window w o (o + run - o)) → b ≡ false
+    → seek w s (ring ((o + run) % slots) (n - run)) ≡ seek w s (ring o n)
+seek-run w s o n run low h e none =
+    let r : o + run - o ≡ run = omega arith in
+    let parts : run + (n - run) ≡ n = omega arith in
+    sym (ap (seek w s) (ap (ring o) (sym parts) ∙ ring-append o run (n - run) low)
+    ∙ seek-past w s (ring o run) (ring ((o + run) % slots) (n - run)) (ap (λ (k : ℕ). holdsSerial s (window w o k)) (sym r) ∙ sym e ∙ none))
 
 -- what the slot found is among the slots sought through
 pub record Found (w : List ℕ) (s : ℕ) (js : List ℕ) (r : ℕ) : Type 0 where

@@ -1,6 +1,6 @@
 // The window: a ring of message slots in the state memory, and the cursor that says which of them fill a place.
 ghost use mathlib.Core.Path.{_≡_};
-ghost use Prim.Native.Nat.{ℕ, _+_, _*_, _-_, _%_, _^_, _<_, _≤_, max};
+ghost use Prim.Native.Nat.{ℕ, _+_, _*_, _-_, _%_, _^_, _<_, _≤_, min, max};
 ghost use mathlib.Core.Bool.{false, _||_};
 ghost use lib.ListN.{length, getD};
 ghost use Rattle.paper.specs.Frame.{level, urgencyOf, termWidth, countWidth, mostPairs, mostTerms};
@@ -303,8 +303,8 @@ pub fn has_serial(state: &[u8], first: usize, count: usize, serial: u32) -> bool
     either(late, serial_among(state, 0, end - layout::SLOTS, serial))
 }
 
-// The slot of the first of the `count` messages from slot `first` on that has the serial; past the last slot where none has.
-pub fn slot_of(state: &[u8], first: usize, count: usize, serial: u32) -> usize
+// The slot of the first of the `count` messages from slot `first` on that has the serial, slot by slot; past the last slot where none has.
+fn walk_to(state: &[u8], first: usize, count: usize, serial: u32) -> usize
     requires { ⌜ (length (now state) ≡ stateLength) × (first < slots) ⌝ }
     ensures { λ r. ⌜ r ≡ seek (words (now (state .entry))) serial (ring first count) ⌝ }
 {
@@ -316,6 +316,34 @@ pub fn slot_of(state: &[u8], first: usize, count: usize, serial: u32) -> usize
         }
         j = following(j);
         left -= 1;
+    }
+    layout::SLOTS
+}
+
+// So many slots are looked at at once for a serial.
+const AT_ONCE: usize = 16;
+
+fn lesser(a: usize, b: usize) -> usize
+    ensures { λ r. ⌜ r ≡ min a b ⌝ }
+{
+    if a < b { a } else { b }
+}
+
+// The same slot, but those before it are passed over many at once.
+pub fn slot_of(state: &[u8], first: usize, count: usize, serial: u32) -> usize
+    requires { ⌜ (length (now state) ≡ stateLength) × (first < slots) ⌝ }
+    ensures { λ r. ⌜ r ≡ seek (words (now (state .entry))) serial (ring first count) ⌝ }
+{
+    let mut j = first;
+    let mut left = count;
+    while 0 < left {
+        // no more than are left of the window, and of the ring up to its end
+        let run = lesser(lesser(AT_ONCE, left), layout::SLOTS - j);
+        if serial_among(state, j, j + run, serial) {
+            return walk_to(state, j, left, serial);
+        }
+        j = (j + run) % layout::SLOTS;
+        left -= run;
     }
     layout::SLOTS
 }

@@ -6,7 +6,7 @@ use borrow.Author.Needs.{needs}
 use Rattle.paper.specs.Layout.{slots}
 use Rattle.memory.specs.Words.{words}
 use Rattle.window.specs.Slot.{ring, seek}
-use Rattle.window.proofs.WalkLaws.{seek-none, seek-here, seek-next}
+use Rattle.window.proofs.WalkLaws.{seek-none, seek-run}
 use Rattle.window.proofs.slot_of.Statement.{statement}
 use Rattle.window.proofs.slot_of.Tie as tie
 
@@ -20,14 +20,14 @@ abbrev μ-loop : tie.MeasureT-loop
 
 returns : tie.Need-returns Inv-loop μ-loop
 returns c =
-    let l = c .before .before .before in
-    seek-here _ _ _ _ (omega arith) (c .before .serial-in .ensures) (omega arith) ∙ l .loop .inv .1
+    let l = c .before .before .before .before .before .before in
+    c .walk-to .ensures ∙ l .loop .inv .1
 
 loop-again : tie.Need-loop-again Inv-loop μ-loop
 loop-again c =
-    let i = c .before .before in
-    let l = i .before .before in
-    (omega arith, seek-next _ _ _ _ (omega arith) (i .serial-in .ensures) (λ e. omega arith) (c .following .ensures) ∙ l .loop .inv .1)
+    let r = c .before in
+    let l = r .before .before .before .before in
+    (omega arith, seek-run _ _ _ _ _ (omega arith) (omega arith) (r .serial-among .ensures) (c .if1 .left) ∙ l .loop .inv .1)
 
 pub slot-of-spec : {M : Type 1} → statement M
 slot-of-spec =
@@ -37,8 +37,13 @@ slot-of-spec =
     μ-loop
     (λ c. search needs)
     (λ c κs. search needs)
-    returns
+    (λ c. search needs)
     (λ c κs. search needs)
+    (λ c. search needs)
+    (λ c κs. search needs)
+    (λ c κs. search needs)
+    returns
+    (λ c. search needs)
     (λ c. search needs)
     (λ c. search needs)
     loop-again
