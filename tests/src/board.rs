@@ -79,6 +79,7 @@ impl Board {
     pub fn closeness(&self, serial: u32, number: u32) -> Result<(u32, u32), u32> {
         compare::closeness(&self.state, &self.log, serial, number)
     }
+
     /// A reading with state memory and answers of many lengths, called with each: 12 where one doesn't fit, and else this number.
     pub fn assert_lengths(&self, needed: usize, otherwise: u32, call: impl Fn(&Lent, &mut Lent) -> u32) {
         for len in [0, 4, needed, STATE - 4, STATE - 1, STATE, STATE + 1, STATE + 4, 2 * STATE] {
