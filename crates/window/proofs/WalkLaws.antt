@@ -83,6 +83,10 @@ module _ (w : List ℕ) (s o n : ℕ) where
     unfolding seek
     seek-next ne e = rw (e, ring-step o n some, ne-eqb (slot w o .serial) s (λ z. ne (read ∙ z)))
 
+-- none of the slots from `first` up to slot j has it, and `left` are yet to be looked at
+abbrev pub Unseen : (w : List ℕ) (s first count j left : ℕ) → Type 0
+Unseen w s first count j left = (j < slots) × (seek w s (ring j left) ≡ seek w s (ring first count))
+
 -- slots that don't have it are passed over
 seek-past : (w : List ℕ) (s : ℕ) (xs ys : List ℕ) → holdsSerial s (map (slot w) xs) ≡ false → seek w s (xs ++ ys) ≡ seek w s ys
 unfolding seek holdsSerial
