@@ -51,7 +51,7 @@ fn counts_in(state: &[u8], j: usize, query: Query) -> [u32; 8]
     counts
 }
 
-// What is divided by: foreign memory may have no count and no weight at all.
+// What is divided by: in foreign memory a message may have no count at all.
 fn at_least_one(product: u64) -> u64
     ensures { λ r. ⌜ r ≡ max product 1 ⌝ }
 {

@@ -80,10 +80,11 @@ pub used : (log : Log) (w : List ℕ) (q : ℕ) {b : Bool} → Represents log w 
 used log w q r h test =
     sym (first-is w q (seen log) (queryAt log q) (λ y e. query-terms (log .queries) q y (r .sound .queries) e) (r .records q h)) ∙ sym test
 
--- and one above the last never is
+-- none above the last is registered
 pub registered-below : (w : List ℕ) (n : ℕ) → registeredIn w n ≡ true → n < numbers
 registered-below w n e = ltb-true n numbers (and-true (ltb n numbers) (not (eqb (getD w (recordAt n) 0) 0)) e .0)
 
+-- so any number is in use as its record says, if it has one
 pub in-use : (log : Log) (w : List ℕ) (n : ℕ) → Represents log w → inUse (queryAt log n) ≡ registeredIn w n
 in-use log w n r =
     by-bool (ltb n numbers) (λ e. rw e (used log w n r (ltb-true n numbers e) refl))

@@ -1,11 +1,11 @@
 -- `squared` meets its contract. Assumes nothing.
 use Prim.Native.Nat.{ℕ, _*_, _-_, _^_, _≤_}
-use native.Mathlib.Nat.{mul-le-mul}
 use native.Mathlib.Omega.{arith}
 use mathlib.Core.Path.{_≡_}
 use lib.ListN.{getD}
 use borrow.Author.Needs.{needs}
 use Rattle.paper.specs.Frame.{countWidth}
+use Rattle.paper.proofs.ImpactLaws.{square-most}
 use Rattle.impact.specs.Cell.{squaresOf}
 use Rattle.impact.proofs.CellLaws.{squares-more}
 use Rattle.impact.proofs.squared.Statement.{statement}
@@ -28,7 +28,7 @@ loop-holds c = (omega arith, omega arith, omega arith)
 count-most : (c : tie.In-loop Inv-loop μ-loop) → let f = getD (c .before .before .args .t1) (c .before .loop .i) 0 in (f ≤ most) × (f * f ≤ most * most)
 count-most c =
     let h = c .before .before .pre .1 (c .before .loop .i) (omega arith) in
-    (omega arith, mul-le-mul {n₂ = most} {m₂ = most} (omega arith) (omega arith))
+    (omega arith, square-most _ h)
 
 mul-sum : tie.Need-mul-sum Inv-loop μ-loop
 mul-sum c = let h = count-most c in search needs
