@@ -2,7 +2,7 @@
  * Two targets over the archive's entries: 'passage' takes a session's input (N less one, T, then frames after their lengths) and checks after each
  * frame all that the state memory tells by docs/STATE.md, without a reference; 'foreign' makes state memory that no sequence of calls left. In both
  * each frame is asked as a search, too, and in 'passage' the last one that could be is asked again after every frame. How close messages are to queries
- * is asked after every frame.
+ * is asked in 'foreign' after every frame, and in 'passage' after every frame that is accepted.
  *
  * The archive isn't instrumented. So each lent slice stands against a page that can't be touched, first with its end and in a second run with its
  * start (or up to three bytes on, for an odd address), and guard bytes are on its other side.

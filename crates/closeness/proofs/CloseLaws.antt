@@ -21,15 +21,15 @@ use Rattle.candidates.specs.Post.{termsOf}
 use Rattle.candidates.proofs.MeasureLaws.{score-found}
 use Rattle.query.specs.Post.{Is}
 use Rattle.closeness.specs.declared.Closeness.{Closeness}
-use Rattle.closeness.specs.Post.{countIn, Counts, mostShared, mostWeights, Divided, toldOf, Compared}
+use Rattle.closeness.specs.Post.{countAmong, Counts, mostShared, mostWeightSquares, Divided, toldOf, SlotCloseness}
 
 -- ---- how large they get
 
 pub shared-most : (s : ℕ) → s ≤ mostShared → s * s ≤ mostShared * mostShared
 shared-most s h = mul-le-mul {n₂ = mostShared} {m₂ = mostShared} h h
 
-pub product-most : (a b : ℕ) → a ≤ mostSquares → b ≤ mostWeights → a * b ≤ mostSquares * mostWeights
-product-most a b ha hb = mul-le-mul {n₂ = mostSquares} {m₂ = mostWeights} ha hb
+pub divisor-most : (a b : ℕ) → a ≤ mostSquares → b ≤ mostWeightSquares → a * b ≤ mostSquares * mostWeightSquares
+divisor-most a b ha hb = mul-le-mul {n₂ = mostSquares} {m₂ = mostWeightSquares} ha hb
 
 -- ---- what they are
 
@@ -54,12 +54,12 @@ module _ (x : Slot) (q : Query) (fs : List ℕ) (lt : q .n ≤ length (q .terms)
     unfolding stored
     cells = ap (λ (y : Slot). y .cells) holds
 
-    counted : _≡_ {A = ℕ → ℕ} (countIn (x .cells)) (λ t. countOf t (m .pairs))
-    counted i t = (ap (λ (cs : List ℕ). countIn cs t) cells ∙ count-cells (m .pairs) v t) i
+    counted : _≡_ {A = ℕ → ℕ} (countAmong (x .cells)) (λ t. countOf t (m .pairs))
+    counted i t = (ap (λ (cs : List ℕ). countAmong cs t) cells ∙ count-cells (m .pairs) v t) i
 
     shared : weightedSum (q .n) (q .weights) fs ≡ sharedSum (query .terms) (m .pairs)
     shared =
-        score-found (countIn (x .cells)) (q .n) (q .terms) (q .weights) fs lt lf counts
+        score-found (countAmong (x .cells)) (q .n) (q .terms) (q .weights) fs lt lf counts
         ∙ ap (λ (g : ℕ → ℕ). scoreBy g (termsOf q)) counted
         ∙ ap (λ (qs : List Pair). sharedSum qs (m .pairs)) (is .terms)
 
@@ -76,7 +76,7 @@ module _ (x : Slot) (q : Query) (fs : List ℕ) (lt : q .n ≤ length (q .terms)
         let x = exact e (positive-divisor (query .terms) (m .pairs) (t .terms) v) (quotient-most (query .terms) (m .pairs) (t .terms) v) in
         λ i. record { quotient = x .0 i; remainder = x .1 i }
 
-  pub compared : Compared x q r
+  pub compared : SlotCloseness x q r
   compared = record {
     most = rw (d .quotient) (min-le-right _ whole);
     right = paper-closeness;

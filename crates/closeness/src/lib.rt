@@ -1,6 +1,6 @@
 // Closeness: the square of the cosine between a message and a query, in tenths of a percent, as quotient and remainder.
 ghost use mathlib.Core.Path.{_≡_};
-ghost use Prim.Native.Nat.{_*_, _≤_, _<_, min, max};
+ghost use Prim.Native.Nat.{_≤_, _<_, min, max};
 ghost use lib.ListN.{length};
 ghost use Rattle.paper.specs.Frame.{mostTerms};
 ghost use Rattle.paper.specs.Layout.{stateLength, slots};
@@ -9,7 +9,7 @@ ghost use Rattle.memory.specs.Words.{words};
 ghost use Rattle.impact.specs.Cell.{mostSquares};
 ghost use Rattle.rank.specs.Weights.{weightLimit, Below};
 ghost use Rattle.window.specs.Slot.{slot};
-ghost use Rattle.closeness.specs.Post.{Counts, mostShared, mostWeights, Divided, Compared};
+ghost use Rattle.closeness.specs.Post.{Counts, mostShared, mostWeightSquares, Divided, SlotCloseness};
 use candidates::Query;
 
 // All of the scale: counts and weights are in proportion.
@@ -24,7 +24,7 @@ impl Closeness {
     // How close the message in slot j is to the query.
     pub fn of(state: &[u8], j: usize, query: Query) -> Closeness
         requires { ⌜ (length (now state) ≡ stateLength) × (j < slots) × (query .n ≤ mostTerms) × Below (query .n) weightLimit (query .weights) ⌝ }
-        ensures { λ r. ⌜ Compared (slot (words (now (state .entry))) j) query r ⌝ }
+        ensures { λ r. ⌜ SlotCloseness (slot (words (now (state .entry))) j) query r ⌝ }
     {
         let n = query.n;
         let weights = query.weights;
@@ -69,9 +69,9 @@ fn at_most_whole(quotient: u64) -> u32
     }
 }
 
-// By the sum of the products that both share, that of the message's counts squared and that of the query's weights squared.
+// 1000 × s² by a × b: `shared` is s, `squares` is a and `weights` is b.
 fn divided(shared: u32, squares: u32, weights: u32) -> Closeness
-    requires { ⌜ (shared ≤ mostShared) × (squares ≤ mostSquares) × (weights ≤ mostWeights) ⌝ }
+    requires { ⌜ (shared ≤ mostShared) × (squares ≤ mostSquares) × (weights ≤ mostWeightSquares) ⌝ }
     ensures { λ r. ⌜ Divided shared squares weights r ⌝ }
 {
     let shared = shared as u64;

@@ -1,21 +1,21 @@
 -- A closeness: what it answers by its lengths and its serial, and where the memory holds a log. Assumes nothing.
 use Prim.Native.Nat.{ℕ, _≤_, _<_, _^_}
 use native.Mathlib.Omega.{arith}
-use mathlib.Core.Path.{_≡_, refl, sym, ap, _∙_}
-use mathlib.Core.Logic.{⊎-elim}
+use mathlib.Core.Path.{_≡_, refl, sym, ap, _∙_, subst}
+use mathlib.Core.Logic.{_⊎_, inl, inr, ⊎-elim}
 use mathlib.Core.Bool.{Bool, true, false, cond, true≢false}
 use mathlib.Core.List.{List, [], _∷_, map}
 use mathlib.Core.Option.{Option, none, some}
 use lib.ListN.{length, getD, drop}
 use lib.Dec.{eqb}
 use borrow.Author.Tests.{eq-eqb, ne-eqb, eqb-true}
-use Rattle.paper.specs.Frame.{Pairs, countWidth, mostPairs, serialWidth}
+use Rattle.paper.specs.Frame.{Pairs, countWidth, mostPairs, serialWidth, numbers}
 use Rattle.paper.specs.Window.{Message}
 use Rattle.paper.specs.Rank as Rank
 use Rattle.paper.specs.Layout.{stateLength, slots}
 use Rattle.paper.specs.Sort.{select}
 use Rattle.paper.specs.Log.{Log, inForceNow, filledNow, hasSerial, queryAt, inUse, seen}
-use Rattle.paper.specs.Closeness.{closeness, pairsOf, judgeCloseness, closenessIn}
+use Rattle.paper.specs.Closeness.{pairsOf, judgeCloseness, closenessIn}
 use Rattle.paper.specs.Sound.{Messages}
 use Rattle.paper.proofs.Tests.{by-bool}
 use Rattle.paper.proofs.LogLaws.{filled-valid, in-force-valid}
@@ -96,6 +96,7 @@ module _ (s : List ℕ) (serial n : ℕ) where
   closeness-not-lent x h z = record {
     not-lent = λ _. z .0;
     no-serial = λ long. absurd (h long);
+    no-number = λ long. absurd (h long);
     most = rw (z .1) (omega arith);
     refused = λ _. (z .1, z .2);
     right = λ log r long. absurd (h long);
@@ -108,24 +109,25 @@ module _ (s : List ℕ) (serial n : ℕ) where
     unfolding judgeCloseness
     judged log e f = rw (eq-eqb (length s) stateLength long, e, f) refl
 
-    refused : (x : Compared) {k : ℕ} → (k ≡ 0 → ⊥) → (2 ^ serialWidth ≤ serial → k ≡ 13)
+    refused : (x : Compared) {k : ℕ} → (k ≡ 13) ⊎ (k ≡ 10) → (2 ^ serialWidth ≤ serial → k ≡ 13)
         → ((log : Log) → Represents log (words s) → judgeCloseness 0 log (length s) 0 serial n ≡ k) → Uncompared k x → ClosenessPost s serial n x
     unfolding closenessIn
-    refused x {k} not-none above by z = record {
+    refused x {k} either above by z = record {
       not-lent = λ h. absurd (h long);
       no-serial = λ _ h. z .0 ∙ above h;
+      no-number = λ _ _. subst (λ (m : ℕ). (m ≡ 13) ⊎ (m ≡ 10)) (sym (z .0)) either;
       most = rw (z .1) (omega arith);
       refused = λ _. (z .1, z .2);
       right = λ log r _.
           let j = by log r in (
             z .0 ∙ sym j,
-            rw (j, ne-eqb k 0 not-none) (λ i. record { quotient = z .1 i; remainder = z .2 i }),
+            rw (j, ne-eqb k 0 (λ e. ⊎-elim (λ a. omega arith) (λ a. omega arith) either)) (λ i. record { quotient = z .1 i; remainder = z .2 i }),
           );
     }
 
     -- no message in force has the serial
     unknown : (x : Compared) → ((log : Log) → Represents log (words s) → hasSerial serial (inForceNow log) ≡ false) → Uncompared 13 x → ClosenessPost s serial n x
-    unknown x absent z = refused x (λ e. omega arith) (λ _. refl) (λ log r. judged log (absent log r) refl) z
+    unknown x absent z = refused x (inl refl) (λ _. refl) (λ log r. judged log (absent log r) refl) z
 
     -- it is none that a frame could say
     pub closeness-above : (x : Compared) → 2 ^ serialWidth ≤ serial → Uncompared 13 x → ClosenessPost s serial n x
@@ -167,9 +169,12 @@ module _ (s : List ℕ) (serial n : ℕ) where
           -- and no query is registered
           pub closeness-unused : (x : Compared) → b ≡ false → Uncompared 10 x → ClosenessPost s serial n x
           closeness-unused x e z =
-              refused x (λ e. omega arith) (λ h. absurd (omega arith)) (λ log r. judged log (there log r .there) (in-use log (words s) n r ∙ sym test ∙ e)) z
+              refused x (inr refl) (λ h. absurd (omega arith)) (λ log r. judged log (there log r .there) (in-use log (words s) n r ∙ sym test ∙ e)) z
 
-          module _ (e : b ≡ true) {q : Query} {x : Closeness} (loaded : LoadedQuery (words s) n q) (compared : close.Compared (slot (words s) j) q x) where
+          module _ (e : b ≡ true) {q : Query} {x : Closeness} (loaded : LoadedQuery (words s) n q) (compared : close.SlotCloseness (slot (words s) j) q x) where
+            within : n < numbers
+            within = registered-below (words s) n (sym test ∙ e)
+
             abbrev told : Compared
             told = record { number = 0; quotient = x .quotient; remainder = x .remainder }
 
@@ -189,8 +194,9 @@ module _ (s : List ℕ) (serial n : ℕ) where
             closeness-right = record {
               not-lent = λ h. absurd (h long);
               no-serial = λ _ h. absurd (omega arith);
+              no-number = λ _ h. absurd (omega (arith, within));
               most = compared .most;
               refused = λ h. absurd (h refl);
               right = λ log r _.
-                  exactly log r (queryAt log n) refl (in-use log (words s) n r ∙ sym test ∙ e) (r .records n (registered-below (words s) n (sym test ∙ e)));
+                  exactly log r (queryAt log n) refl (in-use log (words s) n r ∙ sym test ∙ e) (r .records n within);
             }

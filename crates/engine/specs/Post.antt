@@ -1,6 +1,7 @@
 -- The promises of the engine's calls. `s` is the lent state memory before the call and `s′` after it, in bytes. Assumes nothing.
 use Prim.Native.Nat.{ℕ, _*_, _≤_, _<_, _^_}
 use mathlib.Core.Path.{_≡_}
+use mathlib.Core.Logic.{_⊎_}
 use mathlib.Core.Bool.{false}
 use mathlib.Core.List.{List, [], _++_}
 use lib.ListN.{length, take, drop, replicate}
@@ -103,11 +104,12 @@ pub record SearchPost (s bytes : List ℕ) (r : Searched) : Type 0 where
 abbrev pub closeOf : Compared → Closeness
 closeOf r = record { quotient = r .quotient; remainder = r .remainder }
 
--- "Arguments are a serial in force and a registered query, refused as 13 and 10, in that order, after 12." Whatever the memory holds, no frame has a
--- serial above 1,048,575, and no quotient is above 1,000. The memory is lent to be read only.
+-- "Arguments are a serial in force and a registered query, refused as 13 and 10, in that order, after 12." Whatever the memory holds, no message has a
+-- serial above 1,048,575, no query a number above 31, and no quotient is above 1,000. The memory is lent to be read only.
 pub record ClosenessPost (s : List ℕ) (serial n : ℕ) (r : Compared) : Type 0 where
   pub not-lent : (length s ≡ stateLength → ⊥) → r .number ≡ 12
   pub no-serial : length s ≡ stateLength → 2 ^ serialWidth ≤ serial → r .number ≡ 13
+  pub no-number : length s ≡ stateLength → numbers ≤ n → (r .number ≡ 13) ⊎ (r .number ≡ 10)
   pub most : r .quotient ≤ whole
   pub refused : (r .number ≡ 0 → ⊥) → (r .quotient ≡ 0) × (r .remainder ≡ 0)
   pub right : (log : Log) → Represents log (words s) → length s ≡ stateLength

@@ -569,8 +569,8 @@ fn uncompared(number: u32) -> Compared
     }
 }
 
-// How close the message in force with the serial is to the query under the number. The slot of a cancelled message has a serial too, but none that a frame
-// could say: so none is looked for that isn't one.
+// How close the message in force with the serial is to the query under the number. The slot of a cancelled message has a number above all serials in the
+// place of its own: so what is above them isn't looked for.
 pub fn closeness(state: &[u8], serial: u32, number: u32) -> Compared
     ensures { λ r. ⌜ ClosenessPost (now (state .entry)) serial number r × (now (state .exit) ≡ now (state .entry)) ⌝ }
 {
@@ -585,7 +585,8 @@ pub fn closeness(state: &[u8], serial: u32, number: u32) -> Compared
     if layout::SLOTS <= j {
         return uncompared(13);
     }
-    if !registered(state, number) {
+    let used = registered(state, number);
+    if !used {
         return uncompared(10);
     }
     let query = query::load_query(state, number as usize);

@@ -11,7 +11,7 @@ use lib.ListN.{length, getD, take, drop, length-map, drop-of-length-le, List·ge
 use lib.Seq.{getD-take, drop-cons}
 use lib.Dec.{eqb, ltb}
 use borrow.Author.Tests.{ltb-true, eq-eqb, ne-eqb}
-use Rattle.paper.specs.Frame.{Pair, Pairs, AllFit, termWidth, countWidth, mostPairs, positive, rises}
+use Rattle.paper.specs.Frame.{Pair, terms, Pairs, AllFit, termWidth, countWidth, mostPairs, positive, rises}
 use Rattle.paper.specs.Impact.{impact, squares, countOf, impactIn}
 use Rattle.paper.specs.Write.{side-by-side}
 use Rattle.paper.proofs.Tests.{and-true}
@@ -33,9 +33,6 @@ module _ {t f v : ℕ} (term : t < 2 ^ termWidth) (count : f < 2 ^ countWidth) (
   packed-count = omega arith
 
 -- ---- the cells of a message
-
-abbrev terms : List Pair → List ℕ
-terms ps = map (λ p. p .term) ps
 
 -- an impact has fourteen bits
 impact-small : (f n : ℕ) → impact f n < 2 ^ impactWidth

@@ -9,10 +9,10 @@ use mathlib.Core.List.{List, [], _∷_}
 use lib.ListN.{length}
 use lib.Dec.{eqb, ltb}
 use borrow.Author.Tests.{ltb-true, eqb-true, eqb-false, ne-eqb}
-use Rattle.paper.specs.Frame.{Pair, Pairs, AllFit, termWidth, positive, rises}
+use Rattle.paper.specs.Frame.{Pair, terms, Pairs, AllFit, termWidth, positive, rises}
 use Rattle.paper.specs.Impact.{squares, countOf, scoreBy}
 use Rattle.paper.specs.Order.{In}
-use Rattle.paper.specs.Closeness.{whole, sharedSum, dividend, divisor, closeness, terms, Proportional}
+use Rattle.paper.specs.Closeness.{whole, sharedSum, dividend, divisor, closeness, Proportional}
 use Rattle.paper.proofs.Tests.{and-true}
 use Rattle.paper.proofs.FrameLaws.{rises-parts}
 use Rattle.paper.proofs.Cauchy.{sum, cauchy, alike-equal, equal-alike}
@@ -110,7 +110,7 @@ some-amount : (ps : List Pair) → 1 ≤ length ps → positive ps ≡ true → 
 some-amount [] l e = absurd (not-suc-le-zero l)
 some-amount (p ∷ ps) l e = (p .term, has-amount (p .term) (p ∷ ps) e .0 (inl refl))
 
--- where amounts are in proportion, one of the other's is enough to see that it lacks no term
+-- in proportion to amounts of which one is above 0, each term of the one side is a term of the other
 lacks-none : (xs ys : List Pair) → ((t t′ : ℕ) → countOf t xs * countOf t′ ys ≡ countOf t′ xs * countOf t ys) → positive xs ≡ true → 1 ≤ length ys → positive ys ≡ true
     → (t : ℕ) → In t (terms xs) → In t (terms ys)
 lacks-none xs ys alike ex ly ey t i =

@@ -3,10 +3,10 @@ use Prim.Native.Nat.{ℕ, _*_, _/_, _%_}
 use mathlib.Core.Path.{_≡_}
 use mathlib.Core.Logic.{_↔_}
 use mathlib.Core.Bool.{cond}
-use mathlib.Core.List.{List, [], _∷_, map}
+use mathlib.Core.List.{List, [], _∷_}
 use mathlib.Core.Option.{Option, none, some}
 use lib.Dec.{eqb}
-use Rattle.paper.specs.Frame.{Pair}
+use Rattle.paper.specs.Frame.{Pair, terms}
 use Rattle.paper.specs.Impact.{squares, countOf, scoreBy}
 use Rattle.paper.specs.Window.{Message}
 use Rattle.paper.specs.Rank.{Query}
@@ -40,9 +40,6 @@ unfoldable pub closeness : List Pair → List Pair → Closeness
 closeness qs ps = record { quotient = dividend qs ps / divisor qs ps; remainder = dividend qs ps % divisor qs ps }
 
 -- ---- where it is the whole
-
-abbrev pub terms : List Pair → List ℕ
-terms ps = map (λ p. p .term) ps
 
 -- "counts and weights are in proportion and neither has a term the other lacks": for each two terms, count times the other's weight is the same
 -- either way

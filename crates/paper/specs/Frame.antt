@@ -14,6 +14,9 @@ pub record Pair : Type 0 where
   pub term : ℕ
   pub amount : ℕ
 
+abbrev pub terms : List Pair → List ℕ
+terms ps = map (λ p. p .term) ps
+
 -- "graded routine, important or vital"
 pub data Urgency : Type 0 where
   routine : Urgency

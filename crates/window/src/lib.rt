@@ -99,7 +99,7 @@ pub fn impact_in(state: &[u8], j: usize, term: u32) -> u32
 // The count of the term in the message in slot j, 0 where the message lacks it.
 pub fn count_in(state: &[u8], j: usize, term: u32) -> u32
     requires { ⌜ (length (now state) ≡ stateLength) × (j < slots) ⌝ }
-    ensures { λ r. ⌜ (r ≡ cellCount (cellWith term (slot (words (now (state .entry))) j .cells))) × (r < 2 ^ countWidth) ⌝ }
+    ensures { λ r. ⌜ r ≡ cellCount (cellWith term (slot (words (now (state .entry))) j .cells)) ⌝ }
 {
     impact::count_of(cell_in(state, j, term))
 }
@@ -320,7 +320,7 @@ fn walk_to(state: &[u8], first: usize, count: usize, serial: u32) -> usize
     layout::SLOTS
 }
 
-// So many slots are looked at at once for a serial.
+// So many slots are compared with a serial before it is asked whether one has it: no comparison waits for another then.
 const AT_ONCE: usize = 16;
 
 fn lesser(a: usize, b: usize) -> usize
@@ -329,7 +329,7 @@ fn lesser(a: usize, b: usize) -> usize
     if a < b { a } else { b }
 }
 
-// The same slot, but those before it are passed over many at once.
+// The same slot. Runs of slots without the serial are passed over whole.
 pub fn slot_of(state: &[u8], first: usize, count: usize, serial: u32) -> usize
     requires { ⌜ (length (now state) ≡ stateLength) × (first < slots) ⌝ }
     ensures { λ r. ⌜ r ≡ seek (words (now (state .entry))) serial (ring first count) ⌝ }

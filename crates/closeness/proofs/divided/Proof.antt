@@ -5,13 +5,13 @@ use native.Mathlib.Omega.{arith}
 use mathlib.Core.Path.{refl, _∙_}
 use borrow.Author.Needs.{needs}
 use Rattle.impact.specs.Cell.{mostSquares}
-use Rattle.closeness.specs.Post.{mostWeights}
-use Rattle.closeness.proofs.CloseLaws.{shared-most, product-most}
+use Rattle.closeness.specs.Post.{mostWeightSquares}
+use Rattle.closeness.proofs.CloseLaws.{shared-most, divisor-most}
 use Rattle.closeness.proofs.divided.Statement.{statement}
 use Rattle.closeness.proofs.divided.Tie as tie
 
-small : (c : tie.Start) → c .args .squares * c .args .weights ≤ mostSquares * mostWeights
-small c = product-most (c .args .squares) (c .args .weights) (c .pre .1) (c .pre .2)
+small : (c : tie.Start) → c .args .squares * c .args .weights ≤ mostSquares * mostWeightSquares
+small c = divisor-most (c .args .squares) (c .args .weights) (c .pre .1) (c .pre .2)
 
 mul-square : tie.Need-mul-square
 mul-square c = record { fits = omega (arith, shared-most (c .args .shared) (c .pre .0)) }
