@@ -40,6 +40,11 @@ bigWord a b c d = a * 16777216 + b * 65536 + c * 256 + d
 unfoldable pub bigWords : List ℕ → List ℕ
 bigWords s = fours bigWord s
 
+-- the bytes of words
+unfoldable pub bigBytes : List ℕ → List ℕ
+bigBytes [] = []
+bigBytes (v ∷ w) = (v / 16777216 % 256) ∷ (v / 65536 % 256) ∷ (v / 256 % 256) ∷ (v % 256) ∷ bigBytes w
+
 -- the bytes with the word at index i replaced by v, and no other byte changed
 unfoldable pub putBig : List ℕ → ℕ → ℕ → List ℕ
 putBig s i v = putFour s i (v / 16777216 % 256) (v / 65536 % 256) (v / 256 % 256) (v % 256)

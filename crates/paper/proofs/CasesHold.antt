@@ -12,10 +12,12 @@ use Rattle.paper.specs.Log.{hasSerial, judge, accept, after, departs, de
 use Rattle.paper.specs.Threshold.{thresholdSum, lastScore}
 use Rattle.paper.specs.Search.{countIn, products, highest, highestAt, without, ends, searchOn, search, asked, judgeSearch, found}
 use Rattle.paper.specs.Closeness.{closeness, pairsOf, judgeCloseness, closenessIn}
+use Rattle.paper.specs.Screen.{round, rounds, longest, screen, upward, judgeScreen, screenIn}
 use Rattle.paper.specs.Cases.{table, computed, expected}
 
 pub cases-hold : map computed table ≡ map expected table
 unfolding table odd bits num unpack pack field total spell scan rowOf pairWidths pairValues written encode frameOf pairsAt positive rises gradesKnown check shapeOfKind
     shape inForce noting departing greatest impact squares countOf impactIn scoreBy select insert inserts ranking postings hasSerial judge accept after departs departures judgeList seen listed
     thresholdSum lastScore countIn products highest highestAt without ends searchOn search asked judgeSearch found closeness pairsOf judgeCloseness closenessIn
+    round rounds longest screen upward judgeScreen screenIn
 cases-hold = refl

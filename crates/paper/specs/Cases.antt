@@ -1,5 +1,6 @@
 -- The starred cases of document 01, "Worked passages", under document 02's age rule (T-01); C8, which moves with that rule; cancellations (T-02);
--- urgencies (T-04); searches (T-05); longer messages (T-06); closeness (T-07); and rows for the order of the refusals 1 to 6 and 14: as one table.
+-- urgencies (T-04); searches (T-05); longer messages (T-06); closeness (T-07); screens (T-08); and rows for the order of the refusals 1 to 6 and 14: as one
+-- table.
 -- proofs/CasesHold.antt has its one theorem. Assumes nothing.
 use Prim.Native.Nat.{ℕ, suc}
 use mathlib.Core.List.{List, [], _∷_, _++_, map}
@@ -14,6 +15,7 @@ use Rattle.paper.specs.Layout.{stateLength}
 use Rattle.paper.specs.Log.{Log, Call, fresh, judge, after, departures, listed}
 use Rattle.paper.specs.Search.{Outcome, refusalOf, judgeSearch, found}
 use Rattle.paper.specs.Closeness.{Closeness, judgeCloseness, closenessIn}
+use Rattle.paper.specs.Screen.{Placed, judgeScreen, screenIn}
 
 pub data Case : Type 0 where
   -- the counts of a message's terms; the impact of each
@@ -28,6 +30,8 @@ pub data Case : Type 0 where
   searching : ℕ → ℕ → List (List ℕ) → List ℕ → List ℕ → Case
   -- N, T and frames, and a serial and a query's number after them; the number of the closeness, its quotient and its remainder
   comparing : ℕ → ℕ → List (List ℕ) → ℕ → ℕ → List ℕ → Case
+  -- N, T and frames, and the lines and the bytes of output of a screen after them; its number, and query, serial and score of each line
+  screening : ℕ → ℕ → List (List ℕ) → ℕ → ℕ → List ℕ → Case
 
 -- ---- what the definitions give for a case
 
@@ -66,6 +70,10 @@ told r = r .read ∷ flat (lines (r .list))
 abbrev pub compared : Closeness → List ℕ
 compared c = c .quotient ∷ c .remainder ∷ []
 
+abbrev pub inOrder : List Placed → List ℕ
+inOrder [] = []
+inOrder (p ∷ ps) = p .number ∷ p .entry .serial ∷ p .entry .score ∷ inOrder ps
+
 abbrev pub computed : Case → List (List ℕ)
 computed (impacts fs ws) = impactsOf (numbered 0 fs) ∷ []
 computed (spelling f bytes) = encode f ∷ (refusalOf (shape bytes) ∷ []) ∷ []
@@ -76,6 +84,8 @@ computed (searching N T frames bytes answer) =
 computed (comparing N T frames s n answer) =
     let log = fed (fresh N T) frames in
     (judgeCloseness 0 log stateLength 0 s n ∷ compared (closenessIn 0 log stateLength 0 s n)) ∷ []
+computed (screening N T frames B output answer) =
+    (judgeScreen B stateLength output ∷ inOrder (screenIn B (fed (fresh N T) frames) stateLength output)) ∷ []
 
 abbrev pub expected : Case → List (List ℕ)
 expected (impacts fs ws) = ws ∷ []
@@ -84,6 +94,7 @@ expected (judging bytes r) = (r ∷ []) ∷ []
 expected (passage N T frames told) = told
 expected (searching N T frames bytes answer) = answer ∷ []
 expected (comparing N T frames s n answer) = answer ∷ []
+expected (screening N T frames B output answer) = answer ∷ []
 
 -- ---- the table
 
@@ -223,6 +234,18 @@ close =
     ∷ message 10 5 (long routine) (numbered 0 (replicate 32 255))
     ∷ message 10 6 ungraded (at 5 1 ∷ at 9 2 ∷ [])
     ∷ cancel 10 6
+    ∷ [])
+
+-- Three messages in force after C10's first five frames: two entries for each of the queries 0 and 3, one for 7, and none for 9. Query 8 is dropped.
+abbrev pub fiveLines : List (List ℕ)
+fiveLines =
+    c10Start
+    ++ map encode
+    (register 40 9 16 (at 1000 1 ∷ [])
+    ∷ register 40 8 16 (at 5 1 ∷ [])
+    ∷ register 40 7 1 (at 40 1 ∷ [])
+    ∷ register 40 3 3 (at 5 1 ∷ [])
+    ∷ unregister 40 8
     ∷ [])
 
 unfoldable pub table : List Case
@@ -380,6 +403,16 @@ table =
     ∷ comparing 8 100 close 7 2 (13 ∷ 0 ∷ 0 ∷ [])
     ∷ comparing 8 100 close 1 2 (10 ∷ 0 ∷ 0 ∷ [])
     ∷ comparing 8 100 close 1 32 (10 ∷ 0 ∷ 0 ∷ [])
+    -- T-08: all lines, within the second round, one, none; as many bytes as are needed
+    ∷ screening 3 100 fiveLines 512 4608 (0 ∷ 0 ∷ 3 ∷ 2828 ∷ 3 ∷ 2 ∷ 2000 ∷ 7 ∷ 3 ∷ 1414 ∷ 0 ∷ 2 ∷ 2000 ∷ 3 ∷ 4 ∷ 894 ∷ [])
+    ∷ screening 3 100 fiveLines 4 36 (0 ∷ 0 ∷ 3 ∷ 2828 ∷ 3 ∷ 2 ∷ 2000 ∷ 7 ∷ 3 ∷ 1414 ∷ 0 ∷ 2 ∷ 2000 ∷ [])
+    ∷ screening 3 100 fiveLines 1 9 (0 ∷ 0 ∷ 3 ∷ 2828 ∷ [])
+    ∷ screening 3 100 fiveLines 0 0 (0 ∷ [])
+    -- no query is registered
+    ∷ screening 3 100 oneEach 512 4608 (0 ∷ [])
+    -- too many lines before too few bytes; the bytes are for B lines, however many are placed
+    ∷ screening 3 100 fiveLines 513 0 (5 ∷ [])
+    ∷ screening 3 100 fiveLines 512 4607 (12 ∷ [])
     -- "Order for a frame": of all that is wrong the first is told. Each row mends one thing of the row above.
     ∷ judging (0x00 ∷ 0x00 ∷ 0x00 ∷ 0x00 ∷ []) 1
     ∷ judging (0x00 ∷ 0x00 ∷ 0x00 ∷ 0x00 ∷ 0x00 ∷ 0x09 ∷ 0x02 ∷ 0x40 ∷ 0x05 ∷ 0x01 ∷ 0x00 ∷ []) 2

@@ -11,5 +11,6 @@ pub mod Log
 pub mod Demand3
 pub mod Search
 pub mod Closeness
+pub mod Screen
 pub mod Cases
 pub mod Sound

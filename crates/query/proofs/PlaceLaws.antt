@@ -1,67 +1,82 @@
 -- A query's list, read off its record and changed in place. Assumes nothing.
-use Prim.Native.Nat.{ℕ, _+_, _-_, _/_, _≤_, _<_}
+use Prim.Native.Nat.{ℕ, _+_, _-_, _/_, _≤_, _<_, min}
 use native.Mathlib.Omega.{arith}
 use mathlib.Core.Path.{_≡_, refl, sym, ap, ap₂, _∙_}
 use mathlib.Core.List.{List, [], _∷_, _++_, map}
-use lib.ListN.{length, getD, take, drop, length-take, length-drop}
+use lib.ListN.{length, getD, take, drop, length-take, length-drop, List·getD-map}
 use lib.Seq.{getD-take, getD-drop}
 use borrow.Author.Tests.{eq-eqb, ne-eqb, lt-leb, le-leb, le-ltb, lt-ltb}
 use Rattle.paper.specs.Frame.{numbers, mostListed}
 use Rattle.paper.specs.Rank.{keyFactor}
 use Rattle.paper.specs.Layout.{slots, stateWords, listedIn, serialsIn, keysIn, recordAt}
 use Rattle.rank.specs.declared.Ranked.{Ranked}
-use Rattle.rank.specs.Listing.{Keyed, keyedWith, listed, keyedOf, lastOf, Tidy, Kept, Removed, grown, without, withouts}
-use Rattle.rank.proofs.LineLaws.{length-listed, last-listed}
+use Rattle.rank.specs.Listing.{Keyed, keyedWith, keyedOf, lineWith, shown, lastOf, Tidy, Kept, Removed, grown, without, withouts}
+use Rattle.rank.proofs.LineLaws.{listed-length, listed-at, last-listed}
 use Rattle.window.specs.Slot.{slot, next, ring}
 use Rattle.window.proofs.RingLaws.{ring-step, ring-none}
 use Rattle.query.specs.declared.Move.{Move}
-use Rattle.query.specs.Record.{keys}
-use Rattle.query.specs.Post.{Clamped, Least, WithoutGone, keyIn, WithNewest}
+use Rattle.query.specs.Record.{keys, entryAt}
+use Rattle.query.specs.Post.{Least, WithoutGone, keyIn, WithNewest}
 
 -- ---- the list in the record
 
-module _ (w : List ℕ) (q : ℕ) {n : ℕ} (long : length w ≡ stateWords) (number : q < numbers) (clamped : Clamped 0 mostListed (getD w (listedIn q) 0) n) where
-  module _ (most : getD w (listedIn q) 0 ≤ mostListed) where
-    count-is : n ≡ getD w (listedIn q) 0
-    count-is = clamped .is (omega arith) most
+-- it has no more entries than places
+pub keys-most : (w : List ℕ) (q : ℕ) → length (keys w q) ≤ mostListed
+unfolding keys
+keys-most w q =
+    omega (
+      arith,
+      listed-length (getD w (listedIn q) 0) (take mostListed (drop (serialsIn q) w)) (take mostListed (drop (keysIn q) w)),
+      length-take mostListed (drop (serialsIn q) w),
+    )
 
-    sixteen : (a : ℕ) → a + mostListed ≤ stateWords → length (take mostListed (drop a w)) ≡ mostListed
-    sixteen a h = simp (length-take, length-drop) (omega arith)
+module _ (w : List ℕ) (q : ℕ) (long : length w ≡ stateWords) (number : q < numbers) where
+  sixteen : (a : ℕ) → a + mostListed ≤ stateWords → length (take mostListed (drop a w)) ≡ mostListed
+  sixteen a h = simp (length-take, length-drop) (omega arith)
 
-    length-is : length (keys w q) ≡ n
+  pub keys-length : length (keys w q) ≡ min (getD w (listedIn q) 0) mostListed
+  unfolding keys
+  keys-length =
+      listed-length (getD w (listedIn q) 0) (take mostListed (drop (serialsIn q) w)) (take mostListed (drop (keysIn q) w))
+      ∙ omega (arith, sixteen (serialsIn q) (omega arith), sixteen (keysIn q) (omega arith))
+
+  word-at : (a i : ℕ) → i < mostListed → getD (take mostListed (drop a w)) i 0 ≡ getD w (a + i) 0
+  word-at a i h = getD-take mostListed (drop a w) i 0 h ∙ getD-drop a w i 0
+
+  -- one of its entries
+  pub entry-is : {i s c : ℕ} → i < length (keys w q) → s ≡ getD w (serialsIn q + i) 0 → c ≡ getD w (keysIn q + i) 0 → lineWith s (c / keyFactor) ≡ entryAt w q i
+  unfolding keys
+  entry-is {i} h es ec =
+      let within : i < mostListed = omega (arith, keys-most w q) in
+      rw (es, ec)
+      (sym (List·getD-map shown (keys w q) i (keyedWith 0 0)
+      ∙ ap shown (listed-at (getD w (listedIn q) 0) i (take mostListed (drop (serialsIn q) w)) (take mostListed (drop (keysIn q) w)) h
+      ∙ ap₂ keyedWith (word-at (serialsIn q) i within) (word-at (keysIn q) i within))))
+
+  module _ {n : ℕ} (is : n ≡ length (keys w q)) where
+    last-is : getD w (listedIn q) 0 ≤ mostListed → 0 < n → lastOf (keys w q) ≡ getD w (keysIn q + (n - 1)) 0
     unfolding keys
-    length-is =
-        length-listed (getD w (listedIn q) 0) (take mostListed (drop (serialsIn q) w)) (take mostListed (drop (keysIn q) w))
-        (omega (arith, sixteen (serialsIn q) (omega arith))) (omega (arith, sixteen (keysIn q) (omega arith)))
-        ∙ sym count-is
+    last-is most some =
+        let c : getD w (listedIn q) 0 ≡ n = omega (arith, keys-length) in
+        rw c
+        (sym (last-listed n (take mostListed (drop (serialsIn q) w)) (take mostListed (drop (keysIn q) w)) some
+        (omega (arith, sixteen (serialsIn q) (omega arith))) (omega (arith, sixteen (keysIn q) (omega arith))))
+        ∙ word-at (keysIn q) (n - 1) (omega arith))
 
-    last-is : 0 < n → lastOf (keys w q) ≡ getD w (keysIn q + (n - 1)) 0
-    unfolding keys
-    last-is some =
-        let c = count-is in
-        ap (λ (k : ℕ). lastOf (listedOf k)) (sym c)
-        ∙ sym (last-listed n (take mostListed (drop (serialsIn q) w)) (take mostListed (drop (keysIn q) w)) some
-        (omega (arith, clamped .at-most, sixteen (serialsIn q) (omega arith))) (omega (arith, clamped .at-most, sixteen (keysIn q) (omega arith))))
-        ∙ getD-take mostListed (drop (keysIn q) w) (n - 1) 0 (omega (arith, clamped .at-most))
-        ∙ getD-drop (keysIn q) w (n - 1) 0
-      where
-        listedOf : ℕ → List Keyed
-        listedOf k = listed keyedWith k (take mostListed (drop (serialsIn q) w)) (take mostListed (drop (keysIn q) w))
+    -- one that isn't full, and one that is
+    pub least-short : (n ≡ getD w (recordAt q) 0 → 0 < n → ⊥) → Least w q keyFactor
+    least-short short = record {
+      is = λ query terms says most.
+          let e = says .k in
+          let p = terms .k-least in
+          rw (ne-eqb (length (keys w q)) (query .k) (λ z. short (omega arith) (omega arith)));
+    }
 
-  -- one that isn't full, and one that is
-  pub least-short : (n ≡ getD w (recordAt q) 0 → 0 < n → ⊥) → Least w q keyFactor
-  least-short short = record {
-    is = λ query terms says most.
-        let e = says .k in
-        let p = terms .k-least in
-        rw (ne-eqb (length (keys w q)) (query .k) (λ z. let l = length-is most in short (omega arith) (omega arith)));
-  }
-
-  pub least-full : n ≡ getD w (recordAt q) 0 → 0 < n → {r : ℕ} → r ≡ getD w (keysIn q + (n - 1)) 0 → Least w q r
-  least-full full some read = record {
-    is = λ query terms says most.
-        rw (eq-eqb (length (keys w q)) (query .k) (let l = length-is most in let e = says .k in omega arith)) (read ∙ sym (last-is most some));
-  }
+    pub least-full : n ≡ getD w (recordAt q) 0 → 0 < n → {r : ℕ} → r ≡ getD w (keysIn q + (n - 1)) 0 → Least w q r
+    least-full full some read = record {
+      is = λ query terms says most.
+          rw (eq-eqb (length (keys w q)) (query .k) (let e = says .k in omega arith)) (read ∙ sym (last-is most some));
+    }
 
 -- ---- what left goes out
 

@@ -12,7 +12,7 @@ use Rattle.paper.specs.Sort.{select}
 use Rattle.paper.specs.Window.{Message}
 use Rattle.paper.specs.Threshold.{Kept, Settled, termAt, weightAt}
 use Rattle.rank.specs.Weights.{weightLimit}
-use Rattle.rank.specs.Listing.{Keyed, keyed, keyedWith, listed, shown, ZeroFrom}
+use Rattle.rank.specs.Listing.{Keyed, keyed, keyedWith, listed, lineWith, shown, ZeroFrom}
 use Rattle.paper.specs.Layout.{flagWords, recordAt, recordWords, sizeIn, pairsIn, listedIn, thresholdsIn, serialsIn, keysIn, flagsIn}
 use Rattle.window.specs.Slot.{slot, ring}
 use Rattle.candidates.specs.Match.{exceedsCells}
@@ -32,6 +32,9 @@ keys w q = listed keyedWith (getD w (listedIn q) 0) (take mostListed (drop (seri
 -- the list, as a reading shows it
 abbrev pub list : List ℕ → ℕ → List Line
 list w q = map shown (keys w q)
+
+abbrev pub entryAt : List ℕ → ℕ → ℕ → Line
+entryAt w q i = getD (list w q) i (lineWith 0 0)
 
 -- the candidates by serial, in the order of acceptance: the flagged slots of the window, which is n slots from slot o on, as they are in w₀
 unfoldable pub candidates : List ℕ → List ℕ → ℕ → ℕ → ℕ → List ℕ

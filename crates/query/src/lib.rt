@@ -11,8 +11,9 @@ ghost use Rattle.paper.specs.Layout.{stateLength, slots, recordAt};
 ghost use Rattle.memory.specs.Words.{words};
 ghost use Rattle.window.specs.Table.{termLimit};
 ghost use Rattle.window.specs.Rows.{rowWidth};
-ghost use Rattle.rank.specs.Listing.{scoreLimit};
+ghost use Rattle.rank.specs.Listing.{scoreLimit, lineWith};
 ghost use Rattle.rank.specs.Weights.{weightLimit};
+ghost use Rattle.query.specs.Record.{keys, entryAt};
 ghost use Rattle.query.specs.Touch.{Touched};
 ghost use Rattle.query.specs.Post.{Clamped, InRange, LoadedQuery, LoadedThresholds, LoadedList, Lifted, secure, sameFrom, StoredKept, Finished, Attempted, SiftedFrom};
 ghost use Rattle.query.specs.Post.{Retuned, Refilled, SettledFrom, WithoutOne, MovedFlags, Least, KeptList, WithoutGone, WithNewest, Changed, Updated, Packed, PutQuery, Registered, Cleared};
@@ -92,6 +93,37 @@ fn load_thresholds(state: &[u8], q: usize) -> [u32; 8]
     thresholds
 }
 
+// How many entries the list that the record holds has: no more than it has places, whatever memory says.
+pub fn listed(state: &[u8], q: usize) -> usize
+    requires { ⌜ (length (now state) ≡ stateLength) × (q < numbers) ⌝ }
+    ensures { λ r. ⌜ (r ≤ mostListed) × (r ≡ length (keys (words (now (state .entry))) q)) ⌝ }
+{
+    let count = memory::get(state, layout::RECORDS + layout::RECORD * q + layout::LISTED);
+    if count < MOST_LISTED {
+        count as usize
+    } else {
+        paper::MOST_LISTED
+    }
+}
+
+// An entry of a list, as a reading shows it.
+pub struct Shown {
+    pub serial: u32,
+    pub score: u32,
+}
+
+// The entry at place i of the list that the record holds.
+pub fn entry(state: &[u8], q: usize, i: usize) -> Shown
+    requires { ⌜ (length (now state) ≡ stateLength) × (q < numbers) × (i < length (keys (words (now state)) q)) ⌝ }
+    ensures { λ r. ⌜ lineWith (r .serial) (r .score) ≡ entryAt (words (now (state .entry))) q i ⌝ }
+{
+    let at = layout::RECORDS + layout::RECORD * q;
+    Shown {
+        serial: memory::get(state, at + layout::SERIALS + i),
+        score: memory::get(state, at + layout::KEYS + i) / rank::KEY_FACTOR,
+    }
+}
+
 // The list that the record holds.
 pub fn load_list(state: &[u8], q: usize) -> Ranked
     requires { ⌜ (length (now state) ≡ stateLength) × (q < numbers) ⌝ }
@@ -103,7 +135,7 @@ pub fn load_list(state: &[u8], q: usize) -> Ranked
     Ranked {
         serials,
         keys,
-        count: clamped(memory::get(state, at + layout::LISTED), 0, MOST_LISTED) as usize,
+        count: listed(state, q),
     }
 }
 
@@ -336,14 +368,14 @@ fn least(state: &[u8], q: usize) -> u32
     ensures { λ r. ⌜ Least (words (now (state .entry))) q r ⌝ }
 {
     let at = layout::RECORDS + layout::RECORD * q;
-    let listed = clamped(memory::get(state, at + layout::LISTED), 0, MOST_LISTED);
-    if listed == 0 {
+    let count = listed(state, q);
+    if count == 0 {
         return rank::KEY_FACTOR;
     }
-    if listed != memory::get(state, at) {
+    if count as u32 != memory::get(state, at) {
         return rank::KEY_FACTOR;
     }
-    memory::get(state, at + layout::KEYS + (listed as usize - 1))
+    memory::get(state, at + layout::KEYS + (count - 1))
 }
 
 // List and thresholds stay: only the candidates change.

@@ -323,7 +323,7 @@ fn walk_to(state: &[u8], first: usize, count: usize, serial: u32) -> usize
 // So many slots are compared with a serial before it is asked whether one has it: no comparison waits for another then.
 const AT_ONCE: usize = 16;
 
-fn lesser(a: usize, b: usize) -> usize
+pub fn lesser(a: usize, b: usize) -> usize
     ensures { λ r. ⌜ r ≡ min a b ⌝ }
 {
     if a < b { a } else { b }

@@ -1,0 +1,214 @@
+-- A round, and round after round: what is written, and what is left to be written, is the screen. Assumes nothing.
+use Prim.Native.Nat.{ℕ, zero, suc, _+_, _*_, _-_, _≤_, _<_, min}
+use native.Mathlib.Nat.{not-suc-le-zero, le-of-suc-le-suc}
+use native.Mathlib.Numerals.{add-one}
+use native.Mathlib.Omega.{arith}
+use mathlib.Core.Path.{_≡_, refl, sym, ap, ap₂, _∙_, subst}
+use mathlib.Core.Bool.{true, false}
+use mathlib.Core.Logic.{_⊎_, inl, inr, ⊎-elim}
+use mathlib.Core.List.{List, [], _∷_, _++_, map, map-map, map-append, append-nil, append-assoc}
+use lib.ListN.{length, getD, take, drop, length-append, length-take, length-drop, length-map, drop-of-length-le}
+use lib.Seq.{take-all, take-suc, take-take, getD-take, length-take-le, drop-cons, drop-drop}
+use lib.Dec.{leb}
+use borrow.Author.Tests.{ltb-true, ltb-false, leb-true, leb-false}
+use borrow.Rule.Slice.PartMut.{putMid}
+use Rattle.paper.specs.Frame.{numbers, mostListed}
+use Rattle.paper.specs.Rank.{Line}
+use Rattle.paper.specs.Order.{In}
+use Rattle.paper.specs.Screen.{Queue, Placed, round, served, longest, screen, upward, screenLineLength}
+use Rattle.paper.proofs.Tests.{by-bool}
+use Rattle.paper.proofs.SortLaws.{select-in, take-map}
+use Rattle.paper.proofs.ScreenLaws.{screen-round, screen-none, screen-skip}
+use Rattle.memory.specs.Words.{bigBytes}
+use Rattle.rank.specs.Listing.{lineWith, shown}
+use Rattle.query.specs.Record.{keys, list, entryAt}
+use Rattle.query.proofs.PlaceLaws.{keys-most}
+use Rattle.screen.specs.declared.Waiting.{Waiting}
+use Rattle.screen.specs.Lines.{lineBytes, screenBytes}
+use Rattle.screen.specs.Post.{queueAfter, waits, lineAfter, allQueues, numbersIn, Known, Left, linesInto, Shared}
+use Rattle.screen.proofs.LineLaws.{lines-length, lines-put}
+
+-- ---- a round
+
+-- the lines of the first j queries are written
+pub record Writing (w : List ℕ) (i n : ℕ) (qs out₀ out : List ℕ) (j : ℕ) : Type 0 where
+  pub bound : j ≤ n
+  pub long : length out ≡ length out₀
+  pub lines : out ≡ linesInto (map (lineAfter w i) (take j qs)) out₀
+
+pub writing-none : {w : List ℕ} {i n : ℕ} {qs out : List ℕ} {j : ℕ} → j ≡ 0 → Writing w i n qs out out j
+unfolding screenBytes
+writing-none z = rw z (record { bound = omega arith; long = refl; lines = refl })
+
+module _ {w : List ℕ} {i n : ℕ} {qs out₀ out : List ℕ} {j : ℕ} (l : length qs ≡ numbers) (few : n ≤ numbers) (room : screenLineLength * n ≤ length out₀)
+    (h : j < n) (p : Writing w i n qs out₀ out j) where
+  -- the part of the next line
+  abbrev at : ℕ
+  at = screenLineLength * j
+
+  abbrev size : ℕ
+  size = at + screenLineLength - at
+
+  pub writing-more : {q s c : ℕ} {part : List ℕ} → q ≡ getD qs j 0 → lineWith s c ≡ entryAt w q i → part ≡ lineBytes (record { number = q; entry = lineWith s c })
+      → Writing w i n qs out₀ (putMid at size out part) (j + 1)
+  unfolding screenBytes bigBytes
+  writing-more {q} {s} {c} {part} is entry bytes =
+      let ps : List Placed = map (lineAfter w i) (take j qs) in
+      let x : Placed = lineAfter w i q in
+      let count : length ps ≡ j = length-map (take j qs) (lineAfter w i) ∙ length-take-le j qs (omega arith) in
+      let short : length (take size (drop at out)) ≤ screenLineLength = simp length-take (omega arith) in
+      let here : part ≡ linesInto (x ∷ []) (take size (drop at out)) =
+      rw (drop-of-length-le (take size (drop at out)) short) (bytes ∙ ap (λ (y : Line). lineBytes (record { number = q; entry = y })) entry) in
+      let lines : putMid at size out part ≡ linesInto (map (lineAfter w i) (take (j + 1) qs)) out₀ =
+      lines-put ps (x ∷ []) out₀ at size (p .lines) (omega arith) (omega arith) (omega (arith, p .long)) here
+      ∙ ap (λ (l : List Placed). linesInto l out₀)
+      (sym (ap (map (lineAfter w i)) (ap (λ (m : ℕ). take m qs) (add-one j) ∙ take-suc qs j 0 (omega arith) ∙ ap (λ (y : ℕ). take j qs ++ y ∷ []) (sym is))
+      ∙ map-append (lineAfter w i) (take j qs) (q ∷ []))) in
+      record {
+        bound = omega arith;
+        long = ap length lines ∙ lines-length (map (lineAfter w i) (take (j + 1) qs)) out₀ (simp (length-map, length-take) (omega arith));
+        lines = lines;
+      }
+
+-- ---- round after round
+
+-- an element of a list
+in-getD : {A : Type 0} (d : A) (l : List A) (j : ℕ) → j < length l → In (getD l j d) l
+in-getD d [] j h = absurd (not-suc-le-zero h)
+in-getD d (x ∷ l) zero h = inl refl
+in-getD d (x ∷ l) (suc j) h = inr (in-getD d l j (le-of-suc-le-suc h))
+
+-- the first of the first
+take-lesser : {A : Type 0} (m n : ℕ) (l : List A) → take m (take n l) ≡ take (min n m) l
+take-lesser m n l = by-bool (leb m n) (λ e. less (leb-true m n e)) (λ e. more (leb-false m n e))
+  where
+    less : m ≤ n → take m (take n l) ≡ take (min n m) l
+    less h = let e : min n m ≡ m = omega arith in rw e (take-take m n l h)
+
+    more : n < m → take m (take n l) ≡ take (min n m) l
+    more h = let e : min n m ≡ n = omega arith in rw e (take-all m (take n l) (simp length-take (omega arith)))
+
+screen-zero : (qs : List Queue) → screen 0 qs ≡ []
+unfolding screen
+screen-zero qs = refl
+
+-- what the records show of a query after i rounds
+module _ (w : List ℕ) (i : ℕ) where
+  list-length : (q : ℕ) → length (list w q) ≡ length (keys w q)
+  list-length q = length-map (keys w q) shown
+
+  -- one that doesn't wait has no entry
+  no-entry : (q : ℕ) → waits w i q ≡ false → queueAfter w i q .unplaced ≡ []
+  no-entry q e = drop-of-length-le (list w q) (let h : length (list w q) ≤ i = omega (arith, list-length q, ltb-false i (length (keys w q)) e) in h)
+
+  -- a round of those that wait is a line for each
+  round-lines : (ns : List ℕ) → ((q : ℕ) → In q ns → waits w i q ≡ true) → round (map (queueAfter w i) ns) ≡ map (lineAfter w i) ns
+  unfolding round
+  round-lines [] h = refl
+  round-lines (q ∷ ns) h =
+      let some : i < length (list w q) = omega (arith, list-length q, ltb-true i (length (keys w q)) (h q (inl refl))) in
+      rw (drop-cons (list w q) i (lineWith 0 0) some, round-lines ns (λ x m. h x (inr m)))
+
+  -- and leaves them as they are after it
+  served-next : (ns : List ℕ) → map served (map (queueAfter w i) ns) ≡ map (queueAfter w (i + 1)) ns
+  served-next ns = map-map served (queueAfter w i) ns ∙ (λ k. map (λ q. record { number = q; unplaced = drop-drop 1 i (list w q) k }) ns)
+
+-- after all rounds no query has an entry
+ended : (w : List ℕ) {i : ℕ} (ns : List ℕ) → mostListed ≤ i → longest (map (queueAfter w i) ns) ≡ 0
+unfolding longest
+ended w [] h = refl
+ended w {i} (q ∷ ns) h =
+    let e = length-drop i (list w q) in
+    omega (arith, ended w ns h, list-length w i q, keys-most w q)
+
+-- `done` is written, and with what is left to be written it is the screen
+pub record Placing (w : List ℕ) (B : ℕ) (out₀ out : List ℕ) (a : Waiting) (placed i : ℕ) : Type 0 where
+  pub known : Known a
+  pub most : placed ≤ B
+  pub round : i ≤ mostListed
+  pub long : length out ≡ length out₀
+  done : List Placed
+  count : placed ≡ length done
+  lines : out ≡ linesInto done out₀
+  rest : done ++ screen (B - placed) (map (queueAfter w i) (numbersIn a)) ≡ screen B (allQueues w)
+
+pub placing-none : {w : List ℕ} {B : ℕ} {out : List ℕ} {a : Waiting} {placed i : ℕ} → placed ≡ 0 → i ≡ 0 → Known a × (numbersIn a ≡ upward 0 numbers)
+    → Placing w B out out a placed i
+unfolding screenBytes
+placing-none {B = B} z y k =
+    let e : B - 0 ≡ B = omega arith in
+    rw (z, y) (record { known = k .0; most = omega arith; round = omega arith; long = refl; done = []; count = refl; lines = refl; rest = rw (e, k .1) })
+
+module _ {w : List ℕ} {B : ℕ} {out₀ out : List ℕ} {a b : Waiting} {placed i n : ℕ} (room : screenLineLength * B ≤ length out₀) (h : i < mostListed)
+    (left : Left w i a b) (is : n ≡ min (b .count) (B - placed)) (p : Placing w B out₀ out a placed i) where
+  -- each of those that are left waits
+  waiting : (q : ℕ) → In q (numbersIn b) → waits w i q ≡ true
+  waiting q m = select-in (waits w i) q (numbersIn a) (subst (In q) (left .right) m) .1
+
+  pub still : (j : ℕ) → j < n → (getD (b .numbers) j 0 < numbers) × (i < length (keys w (getD (b .numbers) j 0)))
+  still j k =
+      let within : j < b .count = omega arith in
+      let member : In (getD (b .numbers) j 0) (numbersIn b) =
+      subst (λ (q : ℕ). In q (numbersIn b)) (getD-take (b .count) (b .numbers) j 0 within)
+      (in-getD 0 (numbersIn b) j (simp length-take (omega (arith, left .known .long, left .known .most)))) in
+      (left .known .below j within, ltb-true i (length (keys w (getD (b .numbers) j 0))) (waiting (getD (b .numbers) j 0) member))
+
+  abbrev lines : List Placed
+  lines = map (lineAfter w i) (take n (b .numbers))
+
+  lines-count : length lines ≡ n
+  lines-count = length-map (take n (b .numbers)) (lineAfter w i) ∙ length-take-le n (b .numbers) (omega (arith, left .known .long, left .known .most))
+
+  -- of the lines of this round as many as may be
+  this-round : take (B - placed) (round (map (queueAfter w i) (numbersIn b))) ≡ lines
+  this-round =
+      ap (take (B - placed)) (round-lines w i (numbersIn b) waiting)
+      ∙ take-map (lineAfter w i) (B - placed) (numbersIn b)
+      ∙ ap (map (lineAfter w i)) (take-lesser (B - placed) (b .count) (b .numbers) ∙ ap (λ (m : ℕ). take m (b .numbers)) (sym is))
+
+  next : screen (B - placed) (map (queueAfter w i) (numbersIn a)) ≡ lines ++ screen (B - (placed + n)) (map (queueAfter w (i + 1)) (numbersIn b))
+  next =
+      let count : length (round (map (queueAfter w i) (numbersIn b))) ≡ b .count =
+      ap length (round-lines w i (numbersIn b) waiting)
+      ∙ length-map (numbersIn b) (lineAfter w i)
+      ∙ length-take-le (b .count) (b .numbers) (omega (arith, left .known .long, left .known .most)) in
+      let less : B - placed - length (round (map (queueAfter w i) (numbersIn b))) ≡ B - (placed + n) = omega arith in
+      sym (screen-skip (waits w i) (queueAfter w i) (no-entry w i) (B - placed) (numbersIn a))
+      ∙ ap (λ (ns : List ℕ). screen (B - placed) (map (queueAfter w i) ns)) (sym (left .right))
+      ∙ screen-round (B - placed) (map (queueAfter w i) (numbersIn b))
+      ∙ ap₂ {C = List Placed} (λ x y. x ++ y) this-round (ap₂ screen less (served-next w i (numbersIn b)))
+
+  -- the part that is left of the output
+  abbrev end : ℕ
+  end = screenLineLength * placed
+
+  abbrev free : ℕ
+  free = length out - end
+
+  pub placing-more : {part : List ℕ} → part ≡ linesInto lines (take free (drop end out)) → Placing w B out₀ (putMid end free out part) b (placed + n) (i + 1)
+  placing-more {part} bytes =
+      let count = p .count in
+      let written : putMid end free out part ≡ linesInto (p .done ++ lines) out₀ =
+      lines-put (p .done) lines out₀ end free (p .lines) (omega arith) (omega (arith, lines-count, p .long, p .most))
+      (omega (arith, p .long, p .most)) bytes in
+      let all : placed + n ≡ length (p .done ++ lines) = simp length-append (omega (arith, lines-count)) in
+      record {
+        known = left .known;
+        most = omega (arith, p .most);
+        round = omega arith;
+        long = ap length written ∙ lines-length (p .done ++ lines) out₀ (omega (arith, p .most));
+        done = p .done ++ lines;
+        count = all;
+        lines = written;
+        rest = append-assoc (p .done) lines _ ∙ ap (λ (l : List Placed). p .done ++ l) (sym next) ∙ p .rest;
+      }
+
+-- lines or entries have ended
+pub placing-all : {w : List ℕ} {B : ℕ} {out₀ out : List ℕ} {a : Waiting} {placed i : ℕ} → (mostListed ≤ i) ⊎ (B ≤ placed) → Placing w B out₀ out a placed i
+    → Shared w B out₀ placed out
+placing-all {w} {B} {out₀} {out} {a} {placed} {i} end p =
+    let none : screen (B - placed) (map (queueAfter w i) (numbersIn a)) ≡ [] =
+    ⊎-elim (λ h. screen-none (B - placed) (map (queueAfter w i) (numbersIn a)) (ended w (numbersIn a) h))
+    (λ h. let z : B - placed ≡ 0 = omega arith in ap (λ (m : ℕ). screen m (map (queueAfter w i) (numbersIn a))) z ∙ screen-zero (map (queueAfter w i) (numbersIn a))) end in
+    let all : p .done ≡ screen B (allQueues w) = sym (append-nil (p .done)) ∙ ap (λ (l : List Placed). p .done ++ l) (sym none) ∙ p .rest in
+    record { count = p .count ∙ ap length all; lines = p .lines ∙ ap (λ (l : List Placed). linesInto l out₀) all }

@@ -1,0 +1,112 @@
+-- The queries that have an entry left: at first every number, then those that the last round left one. Assumes nothing.
+use Prim.Native.Nat.{ℕ, zero, suc, _+_, _≤_, _<_}
+use native.Mathlib.Nat.{not-suc-le-zero}
+use native.Mathlib.Numerals.{add-one}
+use native.Mathlib.Omega.{arith}
+use mathlib.Core.Path.{_≡_, refl, sym, ap, ap₂, _∙_}
+use mathlib.Core.List.{List, [], _∷_, _++_, append-nil}
+use lib.ListN.{length, getD, take, set, length-set}
+use lib.Seq.{take-all, take-suc, take-suc-set, getD-set-same, getD-set-other, ext-getD}
+use borrow.Author.Count.{below-more}
+use borrow.Author.Tests.{lt-ltb, le-ltb}
+use Rattle.paper.specs.Frame.{numbers}
+use Rattle.paper.specs.Sort.{select}
+use Rattle.paper.specs.Screen.{upward}
+use Rattle.paper.proofs.SortLaws.{select-append}
+use Rattle.query.specs.Record.{keys}
+use Rattle.screen.specs.declared.Waiting.{Waiting}
+use Rattle.screen.specs.Post.{waits, numbersIn, Known, Left}
+
+-- ---- every number
+
+upward-length : (n m : ℕ) → length (upward n m) ≡ m
+unfolding upward
+upward-length n zero = refl
+upward-length n (suc m) = ap suc (upward-length (suc n) m)
+
+upward-at : (n m j : ℕ) → j < m → getD (upward n m) j 0 ≡ n + j
+unfolding upward
+upward-at n zero j h = absurd (not-suc-le-zero h)
+upward-at n (suc m) zero h = omega arith
+upward-at n (suc m) (suc j) h = upward-at (suc n) m j (omega arith) ∙ omega arith
+
+-- the first q stand in a
+pub record Numbering (q : ℕ) (a : List ℕ) : Type 0 where
+  pub long : length a ≡ numbers
+  pub most : q ≤ numbers
+  pub same : (j : ℕ) → j < q → getD a j 0 ≡ j
+
+pub numbering-none : {q : ℕ} {a : List ℕ} → q ≡ 0 → length a ≡ numbers → Numbering q a
+numbering-none z l = record { long = l; most = omega arith; same = λ j h. absurd (omega arith) }
+
+pub numbering-more : {q : ℕ} {a : List ℕ} → q < numbers → Numbering q a → Numbering (q + 1) (set a q q)
+numbering-more {q} {a} h p = record {
+  long = length-set a q q ∙ p .long;
+  most = omega arith;
+  same =
+      below-more (λ (j : ℕ). getD (set a q q) j 0 ≡ j) q (λ j k. getD-set-other a q j q 0 (omega arith) ∙ p .same j k)
+      (getD-set-same a q q 0 (omega (arith, p .long)));
+}
+
+pub numbering-all : {q : ℕ} {a : List ℕ} → numbers ≤ q → Numbering q a
+    → let r : Waiting = record { numbers = a; count = numbers } in Known r × (numbersIn r ≡ upward 0 numbers)
+numbering-all {q} {a} h p = (
+  record { long = p .long; most = omega arith; below = λ j k. omega (arith, p .same j (omega arith)) },
+  take-all numbers a (omega (arith, p .long))
+      ∙ ext-getD 0 a (upward 0 numbers) (p .long ∙ sym (upward-length 0 numbers))
+      (λ j k. p .same j (omega (arith, p .long, p .most)) ∙ sym (upward-at 0 numbers j (omega (arith, p .long)) ∙ omega arith)),
+)
+
+-- ---- those with an entry at place i
+
+-- of the first j of the numbers, n stand in a
+pub record Choosing (w : List ℕ) (i count : ℕ) (ns : List ℕ) (a : List ℕ) (n j : ℕ) : Type 0 where
+  pub bound : j ≤ count
+  pub few : n ≤ j
+  pub long : length a ≡ numbers
+  pub below : (k : ℕ) → k < n → getD a k 0 < numbers
+  pub right : take n a ≡ select (waits w i) (take j ns)
+
+pub choosing-none : {w : List ℕ} {i count : ℕ} {ns a : List ℕ} {n j : ℕ} → n ≡ 0 → j ≡ 0 → length a ≡ numbers → Choosing w i count ns a n j
+unfolding select
+choosing-none z y l = rw (z, y) (record { bound = omega arith; few = omega arith; long = l; below = λ k h. absurd (omega arith); right = refl })
+
+module _ {w : List ℕ} {i count : ℕ} {ns a : List ℕ} {n j q : ℕ} (most : count ≤ numbers) (l : length ns ≡ numbers) (h : j < count) (is : q ≡ getD ns j 0)
+    (p : Choosing w i count ns a n j) where
+  one-more : select (waits w i) (take (j + 1) ns) ≡ select (waits w i) (take j ns) ++ select (waits w i) (q ∷ [])
+  one-more = rw (add-one j, take-suc ns j 0 (omega arith), ← is) (select-append (waits w i) (take j ns) (q ∷ []))
+
+  pub choosing-kept : q < numbers → i < length (keys w q) → Choosing w i count ns (set a n q) (n + 1) (j + 1)
+  unfolding select
+  choosing-kept low some = record {
+    bound = omega arith;
+    few = let f = p .few in omega arith;
+    long = length-set a n q ∙ p .long;
+    below =
+        below-more (λ (k : ℕ). getD (set a n q) k 0 < numbers) n (λ k m. rw (getD-set-other a n k q 0 (omega arith)) (p .below k m))
+        (rw (getD-set-same a n q 0 (let f = p .few in omega (arith, p .long))) low);
+    right =
+        ap (λ (m : ℕ). take m (set a n q)) (add-one n)
+        ∙ take-suc-set a n q (let f = p .few in omega (arith, p .long))
+        ∙ ap (λ (r : List ℕ). r ++ q ∷ []) (p .right)
+        ∙ sym (one-more ∙ rw (lt-ltb i (length (keys w q)) some));
+  }
+
+  pub choosing-passed : length (keys w q) ≤ i → Choosing w i count ns a n (j + 1)
+  unfolding select
+  choosing-passed none = record {
+    bound = omega arith;
+    few = let f = p .few in omega arith;
+    long = p .long;
+    below = p .below;
+    right = p .right ∙ sym (one-more ∙ rw (le-ltb i (length (keys w q)) none) (append-nil (select (waits w i) (take j ns))));
+  }
+
+pub choosing-all : {w : List ℕ} {i n j : ℕ} {a : List ℕ} {before : Waiting} → Known before → before .count ≤ j
+    → Choosing w i (before .count) (before .numbers) a n j → Left w i before (record { numbers = a; count = n })
+choosing-all {w} {i} {n} {j} {a} {before} known h p =
+    let e : j ≡ before .count = let b = p .bound in omega arith in
+    record {
+      known = record { long = p .long; most = let f = p .few in let m = known .most in omega arith; below = p .below };
+      right = p .right ∙ ap (λ (k : ℕ). select (waits w i) (take k (before .numbers))) e;
+    }

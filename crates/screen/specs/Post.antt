@@ -1,0 +1,54 @@
+-- What the records show of a screen's queries, and what each function of a screen ensures. `w` is the state memory in words. Assumes nothing.
+use Prim.Native.Nat.{ℕ, _*_, _≤_, _<_}
+use mathlib.Core.Path.{_≡_}
+use mathlib.Core.Bool.{Bool}
+use mathlib.Core.List.{List, _++_, map}
+use lib.ListN.{length, getD, take, drop}
+use lib.Dec.{ltb}
+use Rattle.paper.specs.Frame.{numbers}
+use Rattle.paper.specs.Sort.{select}
+use Rattle.paper.specs.Screen.{Queue, Placed, screen, upward, screenLineLength}
+use Rattle.query.specs.Record.{keys, list, entryAt}
+use Rattle.screen.specs.declared.Waiting.{Waiting}
+use Rattle.screen.specs.Lines.{screenBytes}
+
+-- ---- in the records
+
+-- what is left of a list after i rounds
+abbrev pub queueAfter : List ℕ → ℕ → ℕ → Queue
+queueAfter w i q = record { number = q; unplaced = drop i (list w q) }
+
+-- whether anything is
+abbrev pub waits : List ℕ → ℕ → ℕ → Bool
+waits w i q = ltb i (length (keys w q))
+
+-- the line of the next round
+abbrev pub lineAfter : List ℕ → ℕ → ℕ → Placed
+lineAfter w i q = record { number = q; entry = entryAt w q i }
+
+-- every number with its list; one that isn't in use has none
+abbrev pub allQueues : List ℕ → List Queue
+allQueues w = map (queueAfter w 0) (upward 0 numbers)
+
+-- ---- what the functions ensure
+
+abbrev pub numbersIn : Waiting → List ℕ
+numbersIn a = take (a .count) (a .numbers)
+
+pub record Known (a : Waiting) : Type 0 where
+  pub long : length (a .numbers) ≡ numbers
+  pub most : a .count ≤ numbers
+  pub below : (j : ℕ) → j < a .count → getD (a .numbers) j 0 < numbers
+
+-- those that wait still, after i rounds
+pub record Left (w : List ℕ) (i : ℕ) (a r : Waiting) : Type 0 where
+  pub known : Known r
+  pub right : numbersIn r ≡ select (waits w i) (numbersIn a)
+
+-- lines, and then what stood there before
+abbrev pub linesInto : List Placed → List ℕ → List ℕ
+linesInto ps out = screenBytes ps ++ drop (screenLineLength * length ps) out
+
+pub record Shared (w : List ℕ) (B : ℕ) (out : List ℕ) (r : ℕ) (out′ : List ℕ) : Type 0 where
+  pub count : r ≡ length (screen B (allQueues w))
+  pub lines : out′ ≡ linesInto (screen B (allQueues w)) out

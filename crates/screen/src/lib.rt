@@ -1,0 +1,123 @@
+// One screen for all queries: its lines go out in rounds, one for each query that has an entry left.
+ghost use mathlib.Core.Path.{_≡_};
+ghost use mathlib.Core.List.{[], _∷_, map};
+ghost use Prim.Native.Nat.{ℕ, _*_, _<_, _≤_};
+ghost use lib.ListN.{length, getD, take};
+ghost use Rattle.paper.specs.Frame.{numbers};
+ghost use Rattle.paper.specs.Layout.{stateLength};
+ghost use Rattle.paper.specs.Screen.{upward, mostScreenLines, screenLineLength};
+ghost use Rattle.memory.specs.Words.{words, bigBytes};
+ghost use Rattle.rank.specs.Listing.{lineWith};
+ghost use Rattle.query.specs.Record.{keys};
+ghost use Rattle.screen.specs.Lines.{lineBytes};
+ghost use Rattle.screen.specs.Post.{lineAfter, numbersIn, Known, Left, linesInto, Shared};
+use paper::MOST_LISTED;
+use paper::NUMBERS;
+
+// The most lines of a screen, and how many bytes each takes.
+pub const MOST_LINES: u32 = 512;
+
+pub const LINE: usize = 9;
+
+// The numbers of the queries that have an entry left, rising: the first `count`.
+pub struct Waiting {
+    pub numbers: [u8; NUMBERS],
+    pub count: usize,
+}
+
+impl Waiting {
+    // Every number.
+    fn all() -> Waiting
+        ensures { λ r. ⌜ Known r × (numbersIn r ≡ upward 0 numbers) ⌝ }
+    {
+        let mut numbers = [0u8; NUMBERS];
+        let mut q: usize = 0;
+        while q < NUMBERS {
+            numbers[q] = q as u8;
+            q += 1;
+        }
+        Waiting {
+            numbers,
+            count: NUMBERS,
+        }
+    }
+
+    // Those whose lists have an entry at place i.
+    fn with_entry(self, state: &[u8], i: usize) -> Waiting
+        requires { ⌜ (length (now state) ≡ stateLength) × Known self ⌝ }
+        ensures { λ r. ⌜ Left (words (now (state .entry))) i self r ⌝ }
+    {
+        let count = self.count;
+        let numbers = self.numbers;
+        let mut left = [0u8; NUMBERS];
+        let mut n: usize = 0;
+        let mut j: usize = 0;
+        while j < count {
+            let q = numbers[j];
+            if i < query::listed(state, q as usize) {
+                left[n] = q;
+                n += 1;
+            }
+            j += 1;
+        }
+        Waiting {
+            numbers: left,
+            count: n,
+        }
+    }
+}
+
+// Serial and score of an entry, the most significant byte first.
+fn put_entry(out: &mut [u8], serial: u32, score: u32)
+    requires { ⌜ length (now out) ≡ 8 ⌝ }
+    ensures { λ _. ⌜ now (out .exit) ≡ bigBytes (serial ∷ score ∷ []) ⌝ }
+{
+    memory::put_big(out, 0, serial);
+    memory::put_big(out, 1, score);
+}
+
+// A line: the query's number, and its entry.
+fn put_line(out: &mut [u8], number: u8, serial: u32, score: u32)
+    requires { ⌜ length (now out) ≡ screenLineLength ⌝ }
+    ensures { λ _. ⌜ now (out .exit) ≡ lineBytes (record { number = number; entry = lineWith serial score }) ⌝ }
+{
+    out[0] = number;
+    put_entry(&mut out[1..], serial, score);
+}
+
+// A line for each of the first n queries: that of the entry at place i of its list.
+fn put_round(state: &[u8], queries: [u8; NUMBERS], n: usize, i: usize, out: &mut [u8])
+    requires { ⌜ (length (now state) ≡ stateLength) × (n ≤ numbers) × (screenLineLength * n ≤ length (now out)) ⌝ }
+    requires { ⌜ ((j : ℕ) → j < n → (getD queries j 0 < numbers) × (i < length (keys (words (now state)) (getD queries j 0)))) ⌝ }
+    ensures { λ _. ⌜ now (out .exit) ≡ linesInto (map (lineAfter (words (now (state .entry))) i) (take n queries)) (now (out .entry)) ⌝ }
+{
+    let mut j: usize = 0;
+    while j < n {
+        let q = queries[j];
+        let shown = query::entry(state, q as usize, i);
+        let at = LINE * j;
+        let end = at + LINE;
+        put_line(&mut out[at..end], q, shown.serial, shown.score);
+        j += 1;
+    }
+}
+
+// The lines of all rounds, as many as there may be; how many they are.
+pub fn share(state: &[u8], lines: usize, out: &mut [u8]) -> usize
+    requires { ⌜ (length (now state) ≡ stateLength) × (lines ≤ mostScreenLines) × (screenLineLength * lines ≤ length (now out)) ⌝ }
+    ensures { λ r. ⌜ Shared (words (now (state .entry))) lines (now (out .entry)) r (now (out .exit)) ⌝ }
+{
+    let mut waiting = Waiting::all();
+    let mut placed: usize = 0;
+    let mut i: usize = 0;
+    while i < MOST_LISTED && placed < lines {
+        waiting = waiting.with_entry(state, i);
+        let n = window::lesser(waiting.count, lines - placed);
+        let queries = waiting.numbers;
+        let at = LINE * placed;
+        put_round(state, queries, n, i, &mut out[at..]);
+        placed += n;
+        i += 1;
+    }
+    placed
+}
