@@ -59,6 +59,9 @@ module _ (N T : ℕ) (s₀ s : List ℕ) (n : ℕ) (start : StartPost N T s₀ n
         closenesses = λ serial q r p.
             let x = p .right (logOf N T s frames) (h .0) (h .1) in
             rw (← (h .1)) (x .0, x .1);
+        screens = λ B out r out′ p.
+            let x = p .right (logOf N T s frames) (h .0) in
+            rw (← (h .1)) (p .number, x .0, x .1);
         last = λ first bytes r s₁ e before p.
             let b = holds (fresh N T) begun begun-long before in
             let f : FrameRight (logOf N T s first) s₁ bytes r s′ = p .right (logOf N T s first) (b .0) (b .1) in

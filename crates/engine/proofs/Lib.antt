@@ -17,3 +17,4 @@ pub mod Demand3
 pub mod PostingLaws
 pub mod SearchLaws
 pub mod ClosenessLaws
+pub mod ScreenLaws

@@ -10,7 +10,8 @@ use borrow.Author.Tests.{eq-eqb}
 use Rattle.paper.specs.Frame.{numbers}
 use Rattle.paper.specs.Rank.{Query, ranking, lines}
 use Rattle.paper.specs.Layout.{stateLength}
-use Rattle.paper.specs.Log.{Log, queryAt, inUse, judgeList, seen}
+use Rattle.paper.specs.Window.{Message}
+use Rattle.paper.specs.Log.{Log, queryAt, inUse, judgeList, seen, listOf}
 use Rattle.paper.specs.Log as Log
 use Rattle.memory.specs.Words.{words}
 use Rattle.rank.specs.declared.Ranked.{Ranked}
@@ -22,6 +23,11 @@ use Rattle.engine.specs.Represents.{Represents, oldestOf, countOf}
 use Rattle.engine.specs.Inner.{registeredIn}
 use Rattle.engine.specs.Post.{ListPost}
 use Rattle.engine.proofs.RepresentsLaws.{registered-below, in-use}
+
+-- a number that isn't in use has no list
+pub unlisted : (ms : Query → List Message) (x : Option Query) → inUse x ≡ false → listOf ms x ≡ []
+unlisted ms none e = refl
+unlisted ms (some q) e = absurd (true≢false e)
 
 module _ (s : List ℕ) (n : ℕ) where
   pub list-not-lent : {l : Lines} → (length s ≡ stateLength → ⊥) → NoLine l → ListPost s n (record { number = 12; list = l })
@@ -38,13 +44,14 @@ module _ (s : List ℕ) (n : ℕ) where
     unfolding judgeList
     judged log e = rw (eq-eqb (length s) stateLength long, e) refl
 
-    listed-none : (log : Log) → inUse (queryAt log n) ≡ false → [] ≡ Log.listed 0 log (length s) 0 n
+    -- what it returns is the list of the query, where there is one
+    pub listed-is : (log : Log) → Log.listed 0 log (length s) 0 n ≡ listOf (seen log) (queryAt log n)
     unfolding Log.listed
-    listed-none log e = rw (judged log e) refl
-
-    listed-some : (log : Log) (q : Query) → queryAt log n ≡ some q → lines (ranking q (seen log q)) ≡ Log.listed 0 log (length s) 0 n
-    unfolding Log.listed
-    listed-some log q e = rw (judged log (ap inUse e), e) refl
+    listed-is log = go (queryAt log n) refl
+      where
+        go : (x : Option Query) → queryAt log n ≡ x → Log.listed 0 log (length s) 0 n ≡ listOf (seen log) x
+        go none e = rw (judged log (ap inUse e)) refl
+        go (some q) e = rw (judged log (ap inUse e), e) refl
 
     -- the record says which are in use
     module _ {b : Bool} (test : b ≡ registeredIn (words s) n) where
@@ -58,7 +65,7 @@ module _ (s : List ℕ) (n : ℕ) where
         no-number = λ _ _. refl;
         most = let z = e .count in omega arith;
         refused = λ _. (e .list, e .tidy);
-        right = λ log r _. let absent = used-by f log r in (sym (judged log absent), e .list ∙ listed-none log absent, e .tidy);
+        right = λ log r _. let absent = used-by f log r in (sym (judged log absent), e .list ∙ sym (listed-is log ∙ unlisted (seen log) (queryAt log n) absent), e .tidy);
       }
 
       -- the list of the record is that of the log
@@ -87,4 +94,6 @@ module _ (s : List ℕ) (n : ℕ) where
               → HoldsAt (words s) n (oldestOf (words s)) (countOf (words s)) (seen log) y
               → (0 ≡ judgeList 0 log (length s) 0 n) × (linesOf x ≡ Log.listed 0 log (length s) 0 n) × TidyLines x
           go log none is u k = absurd (true≢false (sym u ∙ ap inUse is))
-          go log (some q) is u k = let t = held log q p k in (sym (judged log u), shows .list ∙ t .0 ∙ listed-some log q is, shows .tidy (t .1))
+          go log (some q) is u k =
+              let t = held log q p k in
+              (sym (judged log u), shows .list ∙ t .0 ∙ sym (listed-is log ∙ ap (listOf (seen log)) is), shows .tidy (t .1))

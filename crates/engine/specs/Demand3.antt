@@ -9,16 +9,18 @@ use lib.ListN.{length}
 use Rattle.paper.specs.Rank.{lines}
 use Rattle.paper.specs.Search.{judgeSearch, found}
 use Rattle.paper.specs.Closeness.{judgeCloseness, closenessIn}
+use Rattle.paper.specs.Screen.{judgeScreen, screenIn}
 use Rattle.paper.specs.Demand3.{AllSettled, Answered}
 use Rattle.memory.specs.Words.{words}
 use Rattle.rank.specs.Listing.{linesOf, TidyLines}
+use Rattle.screen.specs.Post.{linesInto}
 use Rattle.engine.specs.declared.Reply.{Reply}
 use Rattle.engine.specs.declared.Listing.{Listing}
 use Rattle.engine.specs.declared.Found.{Found}
 use Rattle.engine.specs.declared.Searched.{Searched}
 use Rattle.engine.specs.declared.Compared.{Compared}
 use Rattle.engine.specs.Represents.{keeping}
-use Rattle.engine.specs.Post.{callOf, replyOf, FramePost, ListPost, postedInto, PostingsPost, SearchPost, closeOf, ClosenessPost}
+use Rattle.engine.specs.Post.{callOf, replyOf, FramePost, ListPost, postedInto, PostingsPost, SearchPost, closeOf, ClosenessPost, ScreenPost}
 
 -- frames handed one after another, each on the memory as the one before left it, chained by the promise of `frame`
 pub data Frames : List ℕ → List (List ℕ) → List ℕ → Type 0 where
@@ -56,6 +58,12 @@ pub record Demand3 (N T : ℕ) (s : List ℕ) (frames : List (List ℕ)) (s′ :
   pub closenesses : (serial n : ℕ) (r : Compared) → ClosenessPost s′ serial n r
       → (r .number ≡ judgeCloseness 0 (logOf N T s frames) stateLength 0 serial n)
       × (closeOf r ≡ closenessIn 0 (logOf N T s frames) stateLength 0 serial n)
+  -- a screen: "in each [round], every query with an unplaced entry gets one for its highest such entry, in rising query number, until lines or entries
+  -- end. The reply is these lines in order .. and their number"; refused, nothing
+  pub screens : (B : ℕ) (out : List ℕ) (r : Found) (out′ : List ℕ) → ScreenPost s′ B out r out′
+      → (r .number ≡ judgeScreen B stateLength (length out))
+      × (r .count ≡ length (screenIn B (logOf N T s frames) stateLength (length out)))
+      × (out′ ≡ linesInto (screenIn B (logOf N T s frames) stateLength (length out)) out)
   -- "A query registered before and after the last frame is marked by it exactly when an arriving or departing message has, in one of its terms,
   -- an impact above the threshold it had there before that frame; unmarked, its thresholds, candidates and list are as they were"
   pub last : (first : List (List ℕ)) (bytes : List ℕ) (r : Reply) (s₁ : List ℕ) → frames ≡ first ++ (bytes ∷ []) → Frames s first s₁ → FramePost s₁ bytes r s′

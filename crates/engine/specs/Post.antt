@@ -12,11 +12,13 @@ use Rattle.paper.specs.Log.{Log, Call, judgeStart, after, judgeList, listed, po
 use Rattle.paper.specs.Rank.{lines}
 use Rattle.paper.specs.Search.{judgeSearch, found}
 use Rattle.paper.specs.Closeness.{Closeness, whole, judgeCloseness, closenessIn}
+use Rattle.paper.specs.Screen.{screenLineLength, judgeScreen, screenIn}
 use Rattle.paper.specs.Demand3.{replyTo, markedBy}
 use Rattle.paper.specs.Demand3 as Demand3
 use Rattle.memory.specs.Words.{words, putWord}
 use Rattle.rank.specs.Listing.{linesOf, TidyLines}
 use Rattle.posting.specs.Lines.{lineBytes}
+use Rattle.screen.specs.Post.{linesInto}
 use Rattle.engine.specs.declared.Reply.{Reply}
 use Rattle.engine.specs.declared.Listing.{Listing}
 use Rattle.engine.specs.declared.Found.{Found}
@@ -115,3 +117,15 @@ pub record ClosenessPost (s : List ℕ) (serial n : ℕ) (r : Compared) : Type 0
   pub right : (log : Log) → Represents log (words s) → length s ≡ stateLength
       → (r .number ≡ judgeCloseness 0 log (length s) 0 serial n)
       × (closeOf r ≡ closenessIn 0 log (length s) 0 serial n)
+
+-- "B above 512 is refused as 5, after the state length (12) and before the output's (12), which must hold B lines": whatever the memory holds, by the
+-- lengths and B alone. There are never more than B lines, and nothing is written past them. "The reply is these lines in order .. and their number." The
+-- memory is lent to be read only.
+pub record ScreenPost (s : List ℕ) (B : ℕ) (out : List ℕ) (r : Found) (out′ : List ℕ) : Type 0 where
+  pub number : r .number ≡ judgeScreen B (length s) (length out)
+  pub most : r .count ≤ B
+  pub long : length out′ ≡ length out
+  pub past : drop (screenLineLength * r .count) out′ ≡ drop (screenLineLength * r .count) out
+  pub refused : (r .number ≡ 0 → ⊥) → (out′ ≡ out) × (r .count ≡ 0)
+  pub right : (log : Log) → Represents log (words s)
+      → (r .count ≡ length (screenIn B log (length s) (length out))) × (out′ ≡ linesInto (screenIn B log (length s) (length out)) out)

@@ -11,7 +11,7 @@ ghost use Rattle.paper.specs.Layout.{stateLength, slots, capacityAt};
 ghost use Rattle.paper.specs.Log.{inRanges};
 ghost use Rattle.memory.specs.Words.{words};
 ghost use Rattle.rank.specs.Listing.{NoLine};
-ghost use Rattle.engine.specs.Post.{StartPost, FramePost, ListPost, PostingsPost, SearchPost, ClosenessPost};
+ghost use Rattle.engine.specs.Post.{StartPost, FramePost, ListPost, PostingsPost, SearchPost, ClosenessPost, ScreenPost};
 ghost use Rattle.window.specs.Slot.{slot};
 ghost use Rattle.window.specs.Table.{termLimit, RaisedBy};
 ghost use Rattle.window.specs.Cursor.{Moved};
@@ -595,5 +595,35 @@ pub fn closeness(state: &[u8], serial: u32, number: u32) -> Compared
         number: 0,
         quotient: close.quotient,
         remainder: close.remainder,
+    }
+}
+
+// The lines of one screen for all queries, into out: number, serial and score of each.
+pub fn screen(state: &[u8], lines: u32, out: &mut [u8]) -> Found
+    ensures { λ r. ⌜ ScreenPost (now (state .entry)) lines (now (out .entry)) r (now (out .exit)) × (now (state .exit) ≡ now (state .entry)) ⌝ }
+{
+    if state.len() != layout::STATE {
+        return Found {
+            number: 12,
+            count: 0,
+        };
+    }
+    if screen::MOST_LINES < lines {
+        return Found {
+            number: 5,
+            count: 0,
+        };
+    }
+    let lines = lines as usize;
+    if out.len() < screen::LINE * lines {
+        return Found {
+            number: 12,
+            count: 0,
+        };
+    }
+    let placed = screen::share(state, lines, out);
+    Found {
+        number: 0,
+        count: placed as u32,
     }
 }
