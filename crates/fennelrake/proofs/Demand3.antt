@@ -180,6 +180,9 @@ module _ (N T : ℕ) (s₀ s : List ℕ) (n : ℕ) (start : StartPost N T s₀ n
             rw (← (h .1)) (x .0, x .1, λ z. (p .refused z .1, p .refused z .0));
         searches = λ bytes a a′ r p. searched (logOf N T calls) s′ bytes a a′ r (h .0) (h .1) p;
         closenesses = λ serial q a a′ r p. compared (logOf N T calls) s′ serial q a a′ r (h .0) (h .1) p;
+        screens = λ B out r out′ p.
+            let x = p .right (logOf N T calls) (h .0) in
+            rw (← (h .1)) (p .number, x .0, x .1);
         last = λ first bytes a a′ s₁ r e before p.
             let b = left before in
             step (logOf N T first) s₁ bytes a r s′ a′ (b .0) (b .1) p .answered;

@@ -19,7 +19,8 @@ use Rattle.paper.proofs.WriteLaws.{unknown-kind, fields-valid}
 use Rattle.memory.proofs.ArrayLaws.{copy-more}
 use Rattle.frame.specs.declared.Written.{Written}
 use Rattle.frame.specs.Write.{fields, WritePost}
-use Rattle.fennelrake.specs.Entry.{termsOf, heardWriting}
+use Rattle.engine.specs.declared.Found.{Found}
+use Rattle.fennelrake.specs.Entry.{heardFound, termsOf, heardWriting}
 
 -- ---- terms of two bytes
 
@@ -131,9 +132,12 @@ take-cut count ts h all = go (leb mostPairs count) refl
 -- ---- a number and a size in one number
 
 -- both are heard again
-pub both-heard : (number size : ℕ) → size < 4294967296
+both-heard : (number size : ℕ) → size < 4294967296
     → (number ≡ (number * 4294967296 + size) / 4294967296) × (size ≡ (number * 4294967296 + size) % 4294967296)
 both-heard number size h = (omega arith, omega arith)
+
+pub found-heard : (r : Found) → r .count < 4294967296 → r ≡ heardFound (r .number * 4294967296 + r .count)
+found-heard r h = let e = both-heard (r .number) (r .count) h in λ i. record { number = e .0 i; count = e .1 i }
 
 -- no frame has more than 80 bytes
 pub written-most : (x : Fields) {s t : List ℕ} {w : Written} → WritePost (fromFields x) s t w → w .length ≤ 80

@@ -9,11 +9,13 @@ use Rattle.paper.specs.Log.{Log, Call, fresh, replay, judgeList, listed, judgeP
 use Rattle.paper.specs.Rank.{lines}
 use Rattle.paper.specs.Search.{judgeSearch, found}
 use Rattle.paper.specs.Closeness.{judgeCloseness, closenessIn}
+use Rattle.paper.specs.Screen.{judgeScreen, screenIn}
 use Rattle.paper.specs.Demand3.{AllSettled, Answered}
 use Rattle.memory.specs.Words.{words}
 use Rattle.rank.specs.Listing.{linesOf, TidyLines}
+use Rattle.screen.specs.Post.{linesInto}
 use Rattle.engine.specs.Represents.{keeping}
-use Rattle.engine.specs.Post.{replyOf, postedInto, PostingsPost, closeOf}
+use Rattle.engine.specs.Post.{replyOf, postedInto, PostingsPost, closeOf, ScreenPost}
 use Rattle.fennelrake.specs.Entry.{frameAnswer, listAnswer, searchAnswer, closenessAnswer, heardReply, heardListing, heardSearch, heardCloseness, heardFound, FrameEntry, ListEntry, SearchEntry, ClosenessEntry}
 
 -- what the paper log is fed: the bytes and the lengths lent
@@ -52,6 +54,12 @@ pub record Demand3 (N T : ℕ) (s : List ℕ) (calls : List Call) (s′ : List �
   pub closenesses : (serial n : ℕ) (a a′ : List ℕ) (r : ℕ) → ClosenessEntry s′ serial n a r a′
       → (r ≡ judgeCloseness closenessAnswer (logOf N T calls) stateLength (length a) serial n)
       × (closeOf (heardCloseness r a′) ≡ closenessIn closenessAnswer (logOf N T calls) stateLength (length a) serial n)
+  -- a screen: "in each [round], every query with an unplaced entry gets one for its highest such entry, in rising query number, until lines or entries
+  -- end. The reply is these lines in order .. and their number"; refused, nothing
+  pub screens : (B : ℕ) (out : List ℕ) (r : ℕ) (out′ : List ℕ) → ScreenPost s′ B out (heardFound r) out′
+      → (heardFound r .number ≡ judgeScreen B stateLength (length out))
+      × (heardFound r .count ≡ length (screenIn B (logOf N T calls) stateLength (length out)))
+      × (out′ ≡ linesInto (screenIn B (logOf N T calls) stateLength (length out)) out)
   -- "A query registered before and after the last frame is marked by it exactly when ..; unmarked, its thresholds, candidates and list are as they
   -- were"
   pub last : (first : List Call) (bytes a a′ s₁ : List ℕ) (r : ℕ) → calls ≡ first ++ (callOf s₁ bytes a ∷ []) → Calls s first s₁

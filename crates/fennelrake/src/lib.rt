@@ -7,7 +7,7 @@ ghost use Rattle.paper.specs.Frame.{mostPairs};
 ghost use Rattle.paper.specs.Write.{fromFields};
 ghost use Rattle.memory.specs.Words.{bigWords};
 ghost use Rattle.frame.specs.Write.{fields, WritePost};
-ghost use Rattle.engine.specs.Post.{StartPost, PostingsPost};
+ghost use Rattle.engine.specs.Post.{StartPost, PostingsPost, ScreenPost};
 ghost use Rattle.fennelrake.specs.Entry.{listAnswer, FrameEntry, ListEntry, SearchEntry, ClosenessEntry, termsOf, heardFound, heardWriting};
 use paper::MOST_LISTED;
 use paper::MOST_PAIRS;
@@ -135,6 +135,16 @@ pub extern "C" fn fennelrake_postings(state: &[u8], term: u32, out: &mut [u8]) -
     ensures { λ r. ⌜ PostingsPost (now (state .entry)) term (now (out .entry)) (heardFound r) (now (out .exit)) ⌝ }
 {
     let found = engine::postings(state, term, out);
+    found.number as u64 * 4294967296 + found.count as u64
+}
+
+// The lines of one screen for all queries, into out: a query in one byte, then serial and score of its entry, four bytes each. Number times 2 to the 32, and
+// how many lines there are.
+#[no_mangle]
+pub extern "C" fn fennelrake_screen(state: &[u8], lines: u32, out: &mut [u8]) -> u64
+    ensures { λ r. ⌜ ScreenPost (now (state .entry)) lines (now (out .entry)) (heardFound r) (now (out .exit)) × (now (state .exit) ≡ now (state .entry)) ⌝ }
+{
+    let found = engine::screen(state, lines, out);
     found.number as u64 * 4294967296 + found.count as u64
 }
 

@@ -1,24 +1,21 @@
 -- `fennelrake_postings` meets its contract. Assumes nothing.
 use Prim.Native.Nat.{ℕ, _+_, _*_, _<_}
-use mathlib.Core.Path.{_≡_, subst}
+use mathlib.Core.Path.{subst}
 use mathlib.Core.List.{List}
 use borrow.Author.Needs.{needs}
 use Rattle.engine.specs.declared.Found.{Found}
 use Rattle.engine.specs.Post.{PostingsPost}
 use Rattle.fennelrake.specs.Entry.{heardFound}
-use Rattle.fennelrake.proofs.TermLaws.{both-heard}
+use Rattle.fennelrake.proofs.TermLaws.{found-heard}
 use Rattle.fennelrake.proofs.fennelrake_postings.Statement.{statement}
 use Rattle.fennelrake.proofs.fennelrake_postings.Tie as tie
 
-postings-heard : (s : List ℕ) (t : ℕ) (out out′ : List ℕ) (r : Found) → r .count < 4294967296 → PostingsPost s t out r out′
+heard : (s : List ℕ) (t : ℕ) (out out′ : List ℕ) (r : Found) → r .count < 4294967296 → PostingsPost s t out r out′
     → PostingsPost s t out (heardFound (r .number * 4294967296 + r .count)) out′
-postings-heard s t out out′ r h p =
-    let e = both-heard (r .number) (r .count) h in
-    let same : r ≡ heardFound (r .number * 4294967296 + r .count) = λ i. record { number = e .0 i; count = e .1 i } in
-    subst (λ (x : Found). PostingsPost s t out x out′) same p
+heard s t out out′ r h p = subst (λ (x : Found). PostingsPost s t out x out′) (found-heard r h) p
 
 returns : tie.Need-returns
-returns c = postings-heard _ _ _ _ (c .before .before .before .before .postings .result) (search needs) (c .before .before .before .before .postings .ensures)
+returns c = heard _ _ _ _ (c .before .before .before .before .postings .result) (search needs) (c .before .before .before .before .postings .ensures)
 
 pub fennelrake-postings-spec : {M : Type 1} → statement M
 fennelrake-postings-spec =
