@@ -3,12 +3,13 @@
  *
  * The host lends memory. An engine in it takes frames (messages, cancellations of messages, clock ticks, registrations and drops of queries) and
  * keeps, for each registered query, the ranked list of the best messages in force; a query that isn't worth registering is asked once, as a search.
- * How close a message in force is to a registered query is told for print, in tenths of a percent. Nothing is allocated, no file is read or written,
- * and the archive keeps no memory of its own between calls: one memory is one engine. Forty boards are forty memories, and calls on different memories
- * may run at the same time.
+ * How close a message in force is to a registered query is told for print, in tenths of a percent. All registered queries share one screen, whose
+ * lines go to their entries in rounds. Nothing is allocated, no file is read or written, and the archive keeps no memory of its own between calls: one
+ * memory is one engine. Forty boards are forty memories, and calls on different memories may run at the same time.
  *
  * In every call a slice is a pointer to bytes and their number. It may stand at any address. Where the number is 0 the pointer may be null.
- * In what a call writes into lent output, a number takes four bytes, the most significant first; the readers at the end of this file take them out.
+ * In what a call writes into lent output, a number takes four bytes, the most significant first, but for the query of a screen's line, which takes
+ * one; the readers at the end of this file take them out.
  *
  * A call is accepted, and returns 0, or is refused under the first number that applies, in the order given with each call. A refusal changes
  * nothing: not the state, not a byte of the output. Bytes past what a call writes are never changed either.
@@ -45,6 +46,7 @@ extern "C" {
 #define FENNELRAKE_POSTING_SIZE 8          /* what fennelrake_postings writes for each posting */
 #define FENNELRAKE_MOST_POSTINGS 256       /* no term has more postings */
 #define FENNELRAKE_POSTINGS_SIZE 2048      /* enough for the postings of any term */
+#define FENNELRAKE_SCREEN_LINE_SIZE 9      /* what fennelrake_screen writes for each line */
 #define FENNELRAKE_LONGEST_FRAME 80        /* enough for fennelrake_write, whatever the frame */
 
 /* ---- ranges */
@@ -62,6 +64,7 @@ extern "C" {
 #define FENNELRAKE_MOST_WEIGHT 15         /* weights are 1 to this */
 #define FENNELRAKE_TOP_IMPACT 2000        /* impacts are 0 to this */
 #define FENNELRAKE_TOP_CLOSENESS 1000     /* closeness, in tenths of a percent, is 0 to this */
+#define FENNELRAKE_MOST_SCREEN_LINES 512  /* a screen has 0 to this many lines */
 
 /* ---- kinds of frame */
 
@@ -228,6 +231,27 @@ uint32_t fennelrake_search(const uint8_t *state, size_t state_length, const uint
 uint32_t fennelrake_closeness(const uint8_t *state, size_t state_length, uint32_t serial, uint32_t number, uint8_t *answer, size_t answer_length);
 
 /*
+ * Places the entries of all registered queries on one screen of `lines` lines. A query's entries are those of its list, as fennelrake_list reads it.
+ * Lines go out in rounds: in each, every query with an unplaced entry gets a line for the highest such entry, in rising query number, until lines or
+ * entries end.
+ *
+ * So each registered query gets at least the lesser of its entries and `lines` divided by the number of registered queries (rounded down), and never
+ * more lines than entries; its own lines stand in its list's order. The lines placed are the lesser of `lines` and all entries: none where no query
+ * is registered.
+ *
+ * Writes FENNELRAKE_SCREEN_LINE_SIZE bytes for each line placed, in order: the query (one byte), serial and score. The state isn't written. The
+ * output must hold `lines` lines, however few are placed.
+ *
+ * Returns number times 2 to the 32, plus how many lines are placed (0 with a refusal): see fennelrake_number and fennelrake_size.
+ *
+ * Refusals, in this order:
+ *   12  state_length is not FENNELRAKE_STATE_SIZE
+ *    5  lines above 512
+ *   12  out_length is below FENNELRAKE_SCREEN_LINE_SIZE times lines
+ */
+uint64_t fennelrake_screen(const uint8_t *state, size_t state_length, uint32_t lines, uint8_t *out, size_t out_length);
+
+/*
  * Writes the frame with these fields into out. Only the fields of the kind are looked at:
  *   FENNELRAKE_MESSAGE         time, serial, pairs, terms, amounts (counts)
  *   FENNELRAKE_TICK            time
@@ -259,13 +283,13 @@ uint64_t fennelrake_write(uint32_t kind, uint32_t time, uint32_t serial, uint32_
 
 /* ---- readers of what a call returned or wrote; of lent bytes only where the call was accepted */
 
-/* The number from fennelrake_postings and fennelrake_write: 0, or the refusal. */
+/* The number from fennelrake_postings, fennelrake_screen and fennelrake_write: 0, or the refusal. */
 static inline uint32_t fennelrake_number(uint64_t returned)
 {
     return (uint32_t)(returned >> 32);
 }
 
-/* How many postings there are; the length of the frame written. */
+/* How many postings there are; how many lines are placed; the length of the frame written. */
 static inline uint32_t fennelrake_size(uint64_t returned)
 {
     return (uint32_t)(returned & UINT32_MAX);
@@ -336,6 +360,22 @@ static inline uint32_t fennelrake_posting_serial(const uint8_t *out, size_t i)
 static inline uint32_t fennelrake_posting_impact(const uint8_t *out, size_t i)
 {
     return fennelrake_word(out + FENNELRAKE_POSTING_SIZE * i + 4);
+}
+
+/* The output of fennelrake_screen: query, serial and score of line i, the first being line 0, for i below the number placed. */
+static inline uint32_t fennelrake_screen_query(const uint8_t *out, size_t i)
+{
+    return out[FENNELRAKE_SCREEN_LINE_SIZE * i];
+}
+
+static inline uint32_t fennelrake_screen_serial(const uint8_t *out, size_t i)
+{
+    return fennelrake_word(out + FENNELRAKE_SCREEN_LINE_SIZE * i + 1);
+}
+
+static inline uint32_t fennelrake_screen_score(const uint8_t *out, size_t i)
+{
+    return fennelrake_word(out + FENNELRAKE_SCREEN_LINE_SIZE * i + 5);
 }
 
 /* Puts a term in place i of the terms for fennelrake_write. */
