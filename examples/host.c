@@ -4,8 +4,8 @@
  *   cc -std=c99 host.c $(pkg-config --cflags --libs fennelrake) -o host && ./host
  *
  * The passage is C10 of the document that describes the ranker: at most 3 messages in force, each up to the age of 100 seconds. Then a message is
- * cancelled and sent again, mended; of messages with equal scores a vital one stands first; a long message has more terms than another could; and the
- * last message is as close to the query as can be. The lines printed are the document's:
+ * cancelled and sent again, mended; of messages with equal scores a vital one stands first; a long message has more terms than another could; the
+ * last message is as close to the query as can be; and two more queries share the screen. The lines printed are the document's:
  *
  *   ordinal, number, marks, departures      for each frame
  *   Q, query, entries, serial and score ..  after it, for each marked query that is still registered
@@ -15,6 +15,7 @@
  *   P, term, postings, serial and impact ..         for term 5
  *   S, postings read, entries, serial and score ..  for a query that isn't registered, of terms 5 and 40
  *   C, query, serial, closeness in percent          for each message in the list of query 0
+ *   L, query, serial, score                         for each line of a screen of four, which all queries share
  */
 #include <fennelrake.h>
 
@@ -54,6 +55,10 @@ static const struct fields passage[] = {
      {8, 16, 1, 1, 1, 1, 1, 1, 1, 1, 1, 1, 1, 1, 1, 1, 1}},
     /* the query's terms and no others, with counts in proportion to its weights */
     {FENNELRAKE_MESSAGE, 125, 8, 0, 0, 0, 2, {5, 9}, {3, 6}},
+    /* query 1 by term 9 alone: the four lines go to the first and the second entry of both queries */
+    {FENNELRAKE_REGISTER, 126, 0, 0, 1, 3, 1, {9}, {1}},
+    /* query 2 by term 5 alone: each query has a line before query 0 has its second */
+    {FENNELRAKE_REGISTER, 127, 0, 0, 2, 3, 1, {5}, {1}},
 };
 
 /* What a pilot asks for once, the best 2 messages: term 5 with weight 1, term 40 with weight 2. Time and number aren't looked at. */
@@ -151,6 +156,20 @@ static void print_closeness(const uint8_t *state, uint32_t query)
     }
 }
 
+enum { SCREEN_LINES = 4 };
+
+static void print_screen(const uint8_t *state)
+{
+    /* room for every line, even where fewer are placed */
+    uint8_t out[FENNELRAKE_SCREEN_LINE_SIZE * SCREEN_LINES] = {0};
+    uint64_t placed = fennelrake_screen(state, FENNELRAKE_STATE_SIZE, SCREEN_LINES, out, sizeof out);
+    size_t i;
+
+    /* a refusal places none */
+    for (i = 0; i < fennelrake_size(placed); i++)
+        printf("L %u %u %u\n", fennelrake_screen_query(out, i), fennelrake_screen_serial(out, i), fennelrake_screen_score(out, i));
+}
+
 int main(void)
 {
     /* One memory is one engine. It belongs to the engine until the host frees it: read it by the calls alone, and don't write it. */
@@ -183,6 +202,7 @@ int main(void)
         print_postings(state, 5);
         print_search(state, &question);
         print_closeness(state, 0);
+        print_screen(state);
     }
     free(state);
     return 0;

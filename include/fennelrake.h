@@ -231,16 +231,16 @@ uint32_t fennelrake_search(const uint8_t *state, size_t state_length, const uint
 uint32_t fennelrake_closeness(const uint8_t *state, size_t state_length, uint32_t serial, uint32_t number, uint8_t *answer, size_t answer_length);
 
 /*
- * Places the entries of all registered queries on one screen of `lines` lines. A query's entries are those of its list, as fennelrake_list reads it.
- * Lines go out in rounds: in each, every query with an unplaced entry gets a line for the highest such entry, in rising query number, until lines or
- * entries end.
+ * Places the entries of all registered queries on one screen; `lines` is how many lines it has. A query's entries are those of its list, as
+ * fennelrake_list reads it. Lines go out in rounds: in each, every query with an unplaced entry gets a line for the highest such entry, in rising
+ * query number, until lines or entries end.
  *
  * So each registered query gets at least the lesser of its entries and `lines` divided by the number of registered queries (rounded down), and never
  * more lines than entries; its own lines stand in its list's order. The lines placed are the lesser of `lines` and all entries: none where no query
  * is registered.
  *
- * Writes FENNELRAKE_SCREEN_LINE_SIZE bytes for each line placed, in order: the query (one byte), serial and score. The state isn't written. The
- * output must hold `lines` lines, however few are placed.
+ * Writes FENNELRAKE_SCREEN_LINE_SIZE bytes for each line placed, in order: the query (one byte), serial and score. The output must hold as many as
+ * `lines`, however few are placed. The state isn't written.
  *
  * Returns number times 2 to the 32, plus how many lines are placed (0 with a refusal): see fennelrake_number and fennelrake_size.
  *
