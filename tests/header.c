@@ -48,6 +48,10 @@ static uint32_t urgency = UINT32_MAX;
 static uint8_t *state, *before, *frame, *reply, *list, *postings, *found, *closeness;
 static size_t frame_length;
 
+/* The output of a screen, for a line more than there can be, and what stands on either side of it. */
+enum { LINE = FENNELRAKE_SCREEN_LINE_SIZE, SCREEN = LINE * (FENNELRAKE_MOST_SCREEN_LINES + 1), ASIDE = 16, AROUND = ASIDE + SCREEN + ASIDE };
+static uint8_t *around, *screen;
+
 /* Makes the terms those from one on, with a first amount and others of one value. */
 static void lay(uint16_t from, uint8_t first, uint8_t other)
 {
@@ -115,6 +119,27 @@ static uint32_t compared(uint32_t serial, uint32_t number)
     ready(closeness, FENNELRAKE_CLOSENESS_ANSWER_SIZE);
     return judged(fennelrake_closeness(state, FENNELRAKE_STATE_SIZE, serial, number, closeness, FENNELRAKE_CLOSENESS_ANSWER_SIZE), 1, closeness,
                   FENNELRAKE_CLOSENESS_ANSWER_SIZE);
+}
+
+/* What a call returns that refuses and tells a size. */
+static uint64_t refusal(uint32_t number)
+{
+    return (uint64_t)number << 32;
+}
+
+/* Asks for a screen in so many bytes, where only the lines placed may be written. Returns what the call does. */
+static uint64_t shown(uint32_t lines, size_t room)
+{
+    uint64_t r;
+    size_t length;
+
+    ready(around, AROUND);
+    r = fennelrake_screen(state, FENNELRAKE_STATE_SIZE, lines, screen, room);
+    length = judged(fennelrake_number(r), 1, around, AROUND) == FENNELRAKE_ACCEPTED ? LINE * (size_t)fennelrake_size(r) : 0;
+    EXPECT(length <= room, 1);
+    if (length <= room)
+        EXPECT(untouched(around, ASIDE) && untouched(screen + length, SCREEN - length + ASIDE), 1);
+    return r;
 }
 
 static void words(void)
@@ -588,6 +613,132 @@ static void closeness_refusals(void)
     EXPECT(compared(4, 5), FENNELRAKE_REFUSED_NOT_IN_USE);
 }
 
+/* Expects a line of the screen. */
+static void line_is(uint32_t i, uint32_t query, uint32_t serial, uint32_t score)
+{
+    EXPECT(fennelrake_screen_query(screen, i), query);
+    EXPECT(fennelrake_screen_serial(screen, i), serial);
+    EXPECT(fennelrake_screen_score(screen, i), score);
+}
+
+/* Four messages, and queries 3, 7, 12 and 31 of three entries, none, one and four. */
+static void screens(void)
+{
+    static const uint32_t serials[] = {FENNELRAKE_SERIALS - 1, 0x10203, 7, 0x40506};
+    static const uint32_t asked[] = {0, 1, 2, 3, 4, 5, 6, 7, 8, 9, 33, FENNELRAKE_MOST_SCREEN_LINES};
+    /* every line, in order: a query, which message, its score */
+    static const struct {
+        uint32_t query, message, score;
+    } rows[] = {
+        {3, 2, 84840}, {12, 1, 1600}, {31, 3, 5656}, {3, 3, 42420}, {31, 1, 4400}, {3, 1, 42000}, {31, 2, 3535}, {31, 0, 2000},
+    };
+    const uint32_t all = sizeof rows / sizeof rows[0];
+    uint32_t i, j, count;
+
+    EXPECT(fennelrake_start(state, FENNELRAKE_STATE_SIZE, 4, 1000), FENNELRAKE_ACCEPTED);
+    for (i = 0; i < sizeof asked / sizeof asked[0]; i++)
+        EXPECT(shown(asked[i], LINE * asked[i]), 0);
+    lay(0, 1, 2);
+    EXPECT(fed(FENNELRAKE_REGISTER, 0, 0, 31, FENNELRAKE_LIST_PLACES, 3), FENNELRAKE_ACCEPTED);
+    lay(1, 1, 1);
+    EXPECT(fed(FENNELRAKE_REGISTER, 0, 0, 12, 1, 1), FENNELRAKE_ACCEPTED);
+    lay(0, FENNELRAKE_MOST_WEIGHT, FENNELRAKE_MOST_WEIGHT);
+    EXPECT(fed(FENNELRAKE_REGISTER, 0, 0, 3, 3, FENNELRAKE_MOST_QUERY_TERMS), FENNELRAKE_ACCEPTED);
+    lay(500, 1, 1);
+    EXPECT(fed(FENNELRAKE_REGISTER, 0, 0, 7, FENNELRAKE_LIST_PLACES, 1), FENNELRAKE_ACCEPTED);
+    /* queries alone */
+    for (i = 0; i < sizeof asked / sizeof asked[0]; i++)
+        EXPECT(shown(asked[i], LINE * asked[i]), 0);
+    lay(0, 1, 1);
+    EXPECT(fed(FENNELRAKE_MESSAGE, 1, serials[0], 0, 0, 1), FENNELRAKE_ACCEPTED);
+    lay(0, 3, 4);
+    EXPECT(fed(FENNELRAKE_MESSAGE, 1, serials[1], 0, 0, 2), FENNELRAKE_ACCEPTED);
+    lay(0, 1, 1);
+    EXPECT(fed(FENNELRAKE_MESSAGE, 1, serials[2], 0, 0, 8), FENNELRAKE_ACCEPTED);
+    lay(1, 1, 1);
+    EXPECT(fed(FENNELRAKE_MESSAGE, 1, serials[3], 0, 0, 2), FENNELRAKE_ACCEPTED);
+    for (i = 0; i < sizeof asked / sizeof asked[0]; i++) {
+        count = asked[i] < all ? asked[i] : all;
+        EXPECT(shown(asked[i], LINE * asked[i]), count);
+        for (j = 0; j < count; j++)
+            line_is(j, rows[j].query, serials[rows[j].message], rows[j].score);
+        EXPECT(shown(asked[i], SCREEN), count);
+        /* as many bytes as the lines asked for, be fewer placed */
+        if (asked[i] > 0)
+            EXPECT(shown(asked[i], LINE * asked[i] - 1), refusal(FENNELRAKE_REFUSED_MEMORY));
+    }
+    /* without query 3 */
+    EXPECT(fed(FENNELRAKE_DROP, 1, 0, 3, 0, 0), FENNELRAKE_ACCEPTED);
+    EXPECT(shown(4, SCREEN), 4);
+    for (i = j = 0; i < 4; j++)
+        if (rows[j].query != 3)
+            line_is(i++, rows[j].query, serials[rows[j].message], rows[j].score);
+}
+
+/* As many queries and entries as can be: a message more than a list has places, and each of another score. */
+static void full_screen(void)
+{
+    static const uint32_t asked[] = {1, FENNELRAKE_QUERIES - 1, FENNELRAKE_QUERIES, FENNELRAKE_QUERIES + 1, FENNELRAKE_MOST_SCREEN_LINES - 1,
+                                     FENNELRAKE_MOST_SCREEN_LINES};
+    uint8_t *exact;
+    uint32_t i, j, query;
+
+    EXPECT(FENNELRAKE_QUERIES * FENNELRAKE_LIST_PLACES, FENNELRAKE_MOST_SCREEN_LINES);
+    EXPECT(fennelrake_start(state, FENNELRAKE_STATE_SIZE, FENNELRAKE_MOST_MESSAGES, 1000), FENNELRAKE_ACCEPTED);
+    for (i = 0; i < FENNELRAKE_QUERIES; i++) {
+        lay(7, (uint8_t)(1 + i % FENNELRAKE_MOST_WEIGHT), 1);
+        EXPECT(fed(FENNELRAKE_REGISTER, 0, 0, FENNELRAKE_QUERIES - 1 - i, FENNELRAKE_LIST_PLACES, 1), FENNELRAKE_ACCEPTED);
+    }
+    for (i = 0; i <= FENNELRAKE_LIST_PLACES; i++) {
+        lay(7, (uint8_t)(1 + i), 10);
+        EXPECT(fed(FENNELRAKE_MESSAGE, 0, 1000 * i, 0, 0, 2), FENNELRAKE_ACCEPTED);
+    }
+    for (i = 0; i < sizeof asked / sizeof asked[0]; i++) {
+        EXPECT(shown(asked[i], LINE * asked[i]), asked[i]);
+        for (j = 0; j < asked[i]; j++) {
+            query = j % FENNELRAKE_QUERIES;
+            EXPECT(fennelrake_list(state, FENNELRAKE_STATE_SIZE, query, list, FENNELRAKE_LIST_ANSWER_SIZE), FENNELRAKE_ACCEPTED);
+            line_is(j, query, fennelrake_list_serial(list, j / FENNELRAKE_QUERIES), fennelrake_list_score(list, j / FENNELRAKE_QUERIES));
+        }
+        /* the same in memory of its own */
+        exact = lent(LINE * asked[i]);
+        EXPECT(fennelrake_screen(state, FENNELRAKE_STATE_SIZE, asked[i], exact, LINE * asked[i]), asked[i]);
+        EXPECT(memcmp(exact, screen, LINE * asked[i]) == 0, 1);
+        free(exact);
+    }
+}
+
+/* Of a screen that has as many lines as can be: the state's length comes first, then the lines asked for, then the output's length. */
+static void screen_refusals(void)
+{
+    /* 9 times the third is 5 in 32 bits */
+    static const uint32_t above[] = {FENNELRAKE_MOST_SCREEN_LINES + 1, 65536, 477218589, UINT32_C(0x80000000), UINT32_MAX};
+    uint8_t *longer = lent(FENNELRAKE_STATE_SIZE + 1);
+    uint32_t i;
+
+    for (i = 0; i < sizeof above / sizeof above[0]; i++) {
+        EXPECT(shown(above[i], 0), refusal(FENNELRAKE_REFUSED_VALUE));
+        EXPECT(shown(above[i], SCREEN), refusal(FENNELRAKE_REFUSED_VALUE));
+        EXPECT(fennelrake_screen(state, FENNELRAKE_STATE_SIZE, above[i], NULL, 0), refusal(FENNELRAKE_REFUSED_VALUE));
+    }
+    EXPECT(shown(FENNELRAKE_MOST_SCREEN_LINES, LINE * FENNELRAKE_MOST_SCREEN_LINES - 1), refusal(FENNELRAKE_REFUSED_MEMORY));
+    EXPECT(shown(1, 0), refusal(FENNELRAKE_REFUSED_MEMORY));
+    EXPECT(fennelrake_screen(state, FENNELRAKE_STATE_SIZE, 1, NULL, 0), refusal(FENNELRAKE_REFUSED_MEMORY));
+    EXPECT(fennelrake_screen(state, FENNELRAKE_STATE_SIZE, 0, NULL, 0), 0);
+
+    memcpy(longer, state, FENNELRAKE_STATE_SIZE);
+    ready(around, AROUND);
+    for (i = 0; i < FENNELRAKE_MOST_SCREEN_LINES + 2; i++) {
+        EXPECT(fennelrake_screen(state, FENNELRAKE_STATE_SIZE - 1, i, screen, SCREEN), refusal(FENNELRAKE_REFUSED_MEMORY));
+        EXPECT(fennelrake_screen(longer, FENNELRAKE_STATE_SIZE + 1, i, screen, SCREEN), refusal(FENNELRAKE_REFUSED_MEMORY));
+    }
+    EXPECT(fennelrake_screen(NULL, 0, UINT32_MAX, NULL, 0), refusal(FENNELRAKE_REFUSED_MEMORY));
+    EXPECT(fennelrake_screen(NULL, 0, 0, NULL, 0), refusal(FENNELRAKE_REFUSED_MEMORY));
+    EXPECT(untouched(around, AROUND), 1);
+    EXPECT(memcmp(before, state, FENNELRAKE_STATE_SIZE) == 0 && memcmp(before, longer, FENNELRAKE_STATE_SIZE) == 0, 1);
+    free(longer);
+}
+
 int main(void)
 {
     lay(0, 1, 1);
@@ -599,6 +750,8 @@ int main(void)
     postings = lent(FENNELRAKE_POSTINGS_SIZE);
     found = lent(FENNELRAKE_SEARCH_ANSWER_SIZE);
     closeness = lent(FENNELRAKE_CLOSENESS_ANSWER_SIZE);
+    around = lent(AROUND);
+    screen = around + ASIDE;
     words();
     starting();
     lengths();
@@ -614,6 +767,9 @@ int main(void)
     searches();
     closeness_values();
     closeness_refusals();
+    screens();
+    full_screen();
+    screen_refusals();
     free(state);
     free(before);
     free(frame);
@@ -622,5 +778,6 @@ int main(void)
     free(postings);
     free(found);
     free(closeness);
+    free(around);
     return failures == 0 ? 0 : 1;
 }
