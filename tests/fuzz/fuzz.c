@@ -2,7 +2,8 @@
  * Two targets over the archive's entries: 'passage' takes a session's input (N less one, T, then frames after their lengths) and checks after each
  * frame all that the state memory tells by docs/STATE.md, without a reference; 'foreign' makes state memory that no sequence of calls left. In both
  * each frame is asked as a search, too, and in 'passage' the last one that could be is asked again after every frame. How close messages are to queries
- * is asked in 'foreign' after every frame, and in 'passage' after every frame that is accepted.
+ * is asked in 'foreign' after every frame, and in 'passage' after every frame that is accepted. So is a screen, of as many lines as the frame's bytes
+ * say.
  *
  * The archive isn't instrumented. So each lent slice stands against a page that can't be touched, first with its end and in a second run with its
  * start (or up to three bytes on, for an odd address), and guard bytes are on its other side.
@@ -47,7 +48,7 @@ struct lent {
 
 static struct lent state = {FENNELRAKE_STATE_SIZE / PAGE + 1, NULL, NULL, 0};
 static struct lent frame = {1, NULL, NULL, 0};
-static struct lent answer = {1, NULL, NULL, 0};
+static struct lent answer = {2, NULL, NULL, 0};
 static struct lent terms = {1, NULL, NULL, 0};
 static struct lent amounts = {1, NULL, NULL, 0};
 
@@ -192,6 +193,41 @@ static uint32_t closeness(uint32_t serial, uint32_t number, size_t room)
         HOLD(all_of(answer.bytes, room, FRESH));
     }
     return r;
+}
+
+/* The number of a screen, which lengths and lines alone tell, whatever memory it is given. */
+static uint32_t screen_number(size_t length, uint32_t lines, size_t room)
+{
+    if (length != FENNELRAKE_STATE_SIZE)
+        return FENNELRAKE_REFUSED_MEMORY;
+    if (lines > FENNELRAKE_MOST_SCREEN_LINES)
+        return FENNELRAKE_REFUSED_VALUE;
+    return room < FENNELRAKE_SCREEN_LINE_SIZE * lines ? FENNELRAKE_REFUSED_MEMORY : 0;
+}
+
+/* A screen writes its lines alone, and no more than were asked for. */
+static uint32_t screen_in(size_t length, uint32_t lines, size_t room)
+{
+    uint32_t number = screen_number(length, lines, room), placed;
+    uint64_t r;
+    lend(&answer, room, FRESH);
+    r = fennelrake_screen(state.bytes, length, lines, answer.bytes, room);
+    guarded(&state);
+    guarded(&answer);
+    placed = fennelrake_size(r);
+    HOLD(fennelrake_number(r) == number && placed <= (number == 0 ? lines : 0));
+    HOLD(all_of(answer.bytes + FENNELRAKE_SCREEN_LINE_SIZE * placed, room - FENNELRAKE_SCREEN_LINE_SIZE * placed, FRESH));
+    return placed;
+}
+
+/* Asks for a screen: first with a state of another length, with no output and with a byte too few. Returns how many lines the answer has. */
+static uint32_t screen(uint32_t lines)
+{
+    size_t room = FENNELRAKE_SCREEN_LINE_SIZE * (size_t)(lines <= FENNELRAKE_MOST_SCREEN_LINES ? lines : FENNELRAKE_MOST_SCREEN_LINES + 1);
+    screen_in(at_start ? state.length + 1 : state.length - 1, lines, ordinal % 2 == 0 ? room : 0);
+    screen_in(state.length, lines, 0);
+    screen_in(state.length, lines, room > 0 ? room - 1 : 0);
+    return screen_in(state.length, lines, room + ordinal % 4);
 }
 
 /* ---- what the state memory keeps (docs/STATE.md) */
@@ -714,6 +750,54 @@ static void check_closenesses(const uint8_t *s)
     HOLD(all_of(answer.bytes, answer.length, FRESH));
 }
 
+/* The lists of all queries, as they are read: empty where none is registered. */
+static uint8_t lists[FENNELRAKE_QUERIES][FENNELRAKE_LIST_ANSWER_SIZE];
+
+static uint32_t lesser(uint32_t a, uint32_t b)
+{
+    return a < b ? a : b;
+}
+
+/* A screen of so many lines against the lists, round by round, and then what each of the registered queries gets of it. */
+static void check_screen(uint32_t lines, uint32_t registered, uint32_t all)
+{
+    uint32_t placed = screen(lines), given[FENNELRAKE_QUERIES] = {0}, at = 0, i, q;
+
+    if (lines > FENNELRAKE_MOST_SCREEN_LINES)
+        return;
+    HOLD(placed == lesser(lines, all));
+    for (i = 0; i < FENNELRAKE_LIST_PLACES; i++)
+        for (q = 0; q < FENNELRAKE_QUERIES && at < placed; q++) {
+            if (i >= fennelrake_list_count(lists[q]))
+                continue;
+            HOLD(fennelrake_screen_query(answer.bytes, at) == q);
+            HOLD(fennelrake_screen_serial(answer.bytes, at) == fennelrake_list_serial(lists[q], i));
+            HOLD(fennelrake_screen_score(answer.bytes, at) == fennelrake_list_score(lists[q], i));
+            given[q]++;
+            at++;
+        }
+    for (q = 0; q < FENNELRAKE_QUERIES && registered > 0; q++)
+        HOLD(given[q] >= lesser(fennelrake_list_count(lists[q]), lines / registered));
+    seen(18, placed);
+    seen(19, 2 * registered + (lines < all));
+}
+
+/* A screen of so many lines, and one of about as many as there are entries. */
+static void check_screens(uint32_t lines)
+{
+    uint32_t registered = 0, all = 0, q;
+
+    memset(lists, 0, sizeof lists);
+    for (q = 0; q < FENNELRAKE_QUERIES; q++)
+        if (list(q, FENNELRAKE_LIST_ANSWER_SIZE) == 0) {
+            memcpy(lists[q], answer.bytes, FENNELRAKE_LIST_ANSWER_SIZE);
+            registered++;
+            all += fennelrake_list_count(lists[q]);
+        }
+    check_screen(lines, registered, all);
+    check_screen(all + 1 - lesser(all + 1, (uint32_t)ordinal % 3), registered, all);
+}
+
 /* The writer makes the same bytes of the frame's fields, into exactly as many, whatever they held. */
 static void check_writer(const uint8_t *f, size_t length)
 {
@@ -815,6 +899,16 @@ static uint32_t digest(uint32_t d, uint32_t value)
     return (d ^ value) * UINT32_C(16777619);
 }
 
+/* How many lines to ask for by a frame's bytes: mostly few, at times about as many as can be, or any number. */
+static uint32_t lines_by(const uint8_t *f, size_t length)
+{
+    uint32_t d = (uint32_t)length;
+    size_t i;
+    for (i = 0; i < length; i++)
+        d = digest(d, f[i]);
+    return d % 8 == 0 ? d : d % 8 == 1 ? FENNELRAKE_MOST_SCREEN_LINES - 8 + d / 8 % 16 : d / 8 % 64;
+}
+
 /* Hands a frame over, checks everything, and answers a digest of the reply. */
 static uint32_t checked_frame(const uint8_t *f, size_t length)
 {
@@ -857,6 +951,7 @@ static uint32_t checked_frame(const uint8_t *f, size_t length)
     check_postings(now, word(now, COUNT) > 0 ? term_in(message(now, (uint32_t)ordinal % word(now, COUNT)), 0) : (uint32_t)ordinal % 1024);
     check_searches(now, f, length, UINT32_MAX);
     check_closenesses(now);
+    check_screens(lines_by(f, length));
     check_writer(f, length);
     HOLD(list(beyond, FENNELRAKE_LIST_ANSWER_SIZE - 1) == FENNELRAKE_REFUSED_MEMORY && all_of(answer.bytes, answer.length, FRESH));
     HOLD(postings(FENNELRAKE_TERMS + (uint32_t)ordinal, 0) == (uint64_t)FENNELRAKE_REFUSED_VALUE << 32);
@@ -978,6 +1073,17 @@ static uint32_t closeness_there(uint32_t number)
     return accepted;
 }
 
+/* A screen of so many lines. Returns how many are placed. */
+static uint32_t screen_there(uint32_t lines)
+{
+    uint32_t placed;
+
+    note();
+    placed = screen(lines);
+    unchanged();
+    return placed;
+}
+
 /*
  * The first byte says how many bytes after it are laid over the state memory, again and again; with 0 it is a fresh engine's. Then steps: a byte
  * below 192 is a frame's length; another has three more bytes, which say what word is damaged and what is put there.
@@ -1018,6 +1124,7 @@ static void foreign_run(const uint8_t *data, size_t size)
         seen(14, search(data, length, FENNELRAKE_SEARCH_ANSWER_SIZE));
         seen(15, search_there(1 + (uint32_t)ordinal % FENNELRAKE_LIST_PLACES));
         seen(17, closeness_there(in_use((uint32_t)ordinal)));
+        seen(20, screen_there(lines_by(data, length)));
         data += length;
         size -= length;
     }

@@ -38,6 +38,7 @@ static uint32_t sent[8]; /* serials of the messages put last */
 static size_t messages;
 static int alike; /* whether messages and queries have one and the same term, so that scores are equal */
 static int once;  /* whether all counts and weights are 1, so that terms of a search have equal postings to read next */
+static int crowd; /* whether most frames register a query of a long list or send a message, so that a screen has many lines */
 
 /*
  * What is no frame at all still serves as fields for the writer. Half of them are in range, with more terms and amounts than any kind takes, but for
@@ -73,8 +74,8 @@ static void put_frame(uint32_t *clock, uint32_t life)
 {
     static const uint32_t kinds[] = {FENNELRAKE_MESSAGE, FENNELRAKE_URGENT_MESSAGE, FENNELRAKE_LONG_MESSAGE};
     uint8_t terms[2 * FENNELRAKE_MOST_PAIRS], amounts[FENNELRAKE_MOST_PAIRS], frame[FENNELRAKE_LONGEST_FRAME + 1] = {0};
-    uint32_t kind = below(13), apart = below(4) == 0 ? 120 : 6, reach = 3 * apart, most = FENNELRAKE_MOST_QUERY_TERMS, pairs = 0, term, length, i;
-    uint32_t time, serial, number, k, top;
+    uint32_t kind = crowd && below(4) > 0 ? 1 + 2 * below(2) : below(13), apart = below(4) == 0 ? 120 : 6, reach = 3 * apart;
+    uint32_t most = FENNELRAKE_MOST_QUERY_TERMS, pairs = 0, term, length, i, time, serial, number, k, top;
     int is_message = kind > 2 && kind < 8, high = below(4) == 0;
 
     kind = kind > 7 ? FENNELRAKE_CANCEL : is_message ? kinds[below(3)] : kind + 2;
@@ -94,15 +95,15 @@ static void put_frame(uint32_t *clock, uint32_t life)
         fennelrake_put_term(terms, 0, 0);
         pairs = 1;
     }
-    *clock += below(24) == 0 ? life + below(2) : below(3);
+    *clock += below(crowd ? 96 : 24) == 0 ? life + below(2) : below(3);
     time = *clock - (below(32) == 0);
     serial = below(below(8) == 0 ? FENNELRAKE_SERIALS : 64);
     if (below(8) < (kind == FENNELRAKE_CANCEL ? 7 : 2))
         serial = sent[below(8)];
     if (is_message)
         sent[messages++ % 8] = serial;
-    number = below(below(3) == 0 ? FENNELRAKE_QUERIES : 6);
-    k = 1 + below(below(3) == 0 ? FENNELRAKE_LIST_PLACES : 3);
+    number = below(crowd || below(3) == 0 ? FENNELRAKE_QUERIES : 6);
+    k = crowd ? FENNELRAKE_LIST_PLACES : 1 + below(below(3) == 0 ? FENNELRAKE_LIST_PLACES : 3);
     length = fennelrake_size(
         fennelrake_write(kind, time, serial, below(3), number, k, pairs, terms, 2 * pairs, amounts, pairs, frame, FENNELRAKE_LONGEST_FRAME));
     if ((kind == FENNELRAKE_URGENT_MESSAGE || kind == FENNELRAKE_LONG_MESSAGE) && below(16) == 0) {
@@ -135,7 +136,7 @@ static void make_passage(uint32_t most)
     if (below(30) == 0)
         life = 0;
     size = 0;
-    put(below(4) == 0 ? below(256) : below(12));
+    put(crowd || below(4) == 0 ? below(256) : below(12));
     put(life >> 8);
     put(life & 255);
     while (frames-- > 0)
@@ -180,6 +181,7 @@ static void make(int of_passage, uint32_t most, uint32_t seed, uint32_t i)
     messages = 0;
     alike = below(4) == 0;
     once = below(4) == 0;
+    crowd = below(16) == 0;
     (of_passage ? make_passage : make_foreign)(most);
 }
 
