@@ -621,7 +621,16 @@ static void line_is(uint32_t i, uint32_t query, uint32_t serial, uint32_t score)
     EXPECT(fennelrake_screen_score(screen, i), score);
 }
 
-/* Four messages, and queries 3, 7, 12 and 31 of three entries, none, one and four. */
+/* Expects that nothing is placed, however many lines there are. */
+static void nothing_shown(void)
+{
+    uint32_t lines;
+
+    for (lines = 0; lines <= FENNELRAKE_MOST_SCREEN_LINES; lines += lines > 0 ? lines : 1)
+        EXPECT(shown(lines, LINE * lines), 0);
+}
+
+/* Nothing, then queries 3, 7, 12 and 31 alone; and four messages, of which they have three entries, none, one and four. */
 static void screens(void)
 {
     static const uint32_t serials[] = {FENNELRAKE_SERIALS - 1, 0x10203, 7, 0x40506};
@@ -636,8 +645,7 @@ static void screens(void)
     uint32_t i, j, count;
 
     EXPECT(fennelrake_start(state, FENNELRAKE_STATE_SIZE, 4, 1000), FENNELRAKE_ACCEPTED);
-    for (i = 0; i < sizeof asked / sizeof asked[0]; i++)
-        EXPECT(shown(asked[i], LINE * asked[i]), 0);
+    nothing_shown();
     lay(0, 1, 2);
     EXPECT(fed(FENNELRAKE_REGISTER, 0, 0, 31, FENNELRAKE_LIST_PLACES, 3), FENNELRAKE_ACCEPTED);
     lay(1, 1, 1);
@@ -646,9 +654,7 @@ static void screens(void)
     EXPECT(fed(FENNELRAKE_REGISTER, 0, 0, 3, 3, FENNELRAKE_MOST_QUERY_TERMS), FENNELRAKE_ACCEPTED);
     lay(500, 1, 1);
     EXPECT(fed(FENNELRAKE_REGISTER, 0, 0, 7, FENNELRAKE_LIST_PLACES, 1), FENNELRAKE_ACCEPTED);
-    /* queries alone */
-    for (i = 0; i < sizeof asked / sizeof asked[0]; i++)
-        EXPECT(shown(asked[i], LINE * asked[i]), 0);
+    nothing_shown();
     lay(0, 1, 1);
     EXPECT(fed(FENNELRAKE_MESSAGE, 1, serials[0], 0, 0, 1), FENNELRAKE_ACCEPTED);
     lay(0, 3, 4);
