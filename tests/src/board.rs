@@ -1,7 +1,7 @@
 //! An engine and a log of the same frames, for passages by hand.
 
 use crate::compare;
-use crate::engine::{self, Lent, STATE};
+use crate::engine::{self, Lent, Line, LINE, STATE};
 use crate::paper::{routine, Form, Frame, Log};
 
 pub type Pairs<'a> = &'a [(u32, u32)];
@@ -62,7 +62,12 @@ impl Board {
     }
 
     pub fn register(&mut self, number: usize, terms: Pairs) {
-        self.take(Frame::Register { time: self.log.clock, number, k: 1, terms: terms.to_vec() });
+        self.list(number, 1, terms);
+    }
+
+    /// A query that lists k messages.
+    pub fn list(&mut self, number: usize, k: usize, terms: Pairs) {
+        self.take(Frame::Register { time: self.log.clock, number, k, terms: terms.to_vec() });
     }
 
     pub fn drop(&mut self, number: usize) {
@@ -78,6 +83,11 @@ impl Board {
     /// Quotient and remainder of a closeness, or the number that refuses it.
     pub fn closeness(&self, serial: u32, number: u32) -> Result<(u32, u32), u32> {
         compare::closeness(&self.state, &self.log, serial, number)
+    }
+
+    /// The lines of a screen, in output that they just fill.
+    pub fn screen(&self, lines: u32) -> Vec<Line> {
+        compare::screen(&self.state, &self.log, lines, LINE * lines as usize).expect("a screen that is accepted")
     }
 
     /// A reading with state memory and answers of many lengths, called with each: 12 where one doesn't fit, and else this number.

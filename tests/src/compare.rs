@@ -1,7 +1,7 @@
-//! A search and a closeness of the engine beside those of the log.
+//! A search, a closeness and a screen of the engine beside those of the log.
 
-use crate::engine::{self, Lent};
-use crate::paper::{asked, Found, Frame, Log, Message, Query};
+use crate::engine::{self, Lent, Line, STATE};
+use crate::paper::{asked, judge_screen, Found, Frame, Log, Message, Query};
 
 /// A copy of the state with a query registered at the clock, under this number, whether or not that is in use.
 fn with_query(state: &Lent, log: &Log, number: usize, q: &Query) -> Lent {
@@ -56,4 +56,28 @@ fn assert_close(got: Result<(u32, u32), u32>, m: &Message, q: &Query) {
     assert_eq!(got, Ok(close), "closeness of {m:?} to {q:?}");
     assert!(close.0 <= 1000, "{close:?} of {m:?} to {q:?}");
     assert_eq!(close == (1000, 0), m.is_in_proportion(q), "{close:?} of {m:?} to {q:?}");
+}
+
+/// Asks both for a screen of so many lines in output of so many bytes, and compares number and lines.
+pub fn screen(state: &Lent, log: &Log, lines: u32, room: usize) -> Result<Vec<Line>, u32> {
+    let got = engine::screen(state, lines, room);
+    let want = judge_screen(state.bytes().len() == STATE, lines, room).map(|()| log.screen(lines));
+    assert_eq!(got, want, "a screen of {lines} lines in {room} bytes");
+    if let Ok(placed) = &got {
+        assert_shared_out(state, lines, placed);
+    }
+    got
+}
+
+/// A query's lines are the first entries of its list: at least its share of the lines, or all of them. No line is left where an entry is.
+fn assert_shared_out(state: &Lent, lines: u32, placed: &[Line]) {
+    let lists: Vec<(u32, Vec<(u32, u32)>)> = (0..32).filter_map(|number| Some((number, engine::list(state, number).ok()?))).collect();
+    for (number, list) in &lists {
+        let own: Vec<(u32, u32)> = placed.iter().filter(|line| line.0 == *number).map(|line| (line.1, line.2)).collect();
+        assert!(list.starts_with(&own), "of {lines} lines query {number} has {own:?}, and lists {list:?}");
+        let share = list.len().min(lines as usize / lists.len());
+        assert!(own.len() >= share, "of {lines} lines query {number} has {}, and its share is {share}", own.len());
+    }
+    let entries: usize = lists.iter().map(|(_, list)| list.len()).sum();
+    assert_eq!(placed.len(), entries.min(lines as usize), "of {lines} lines, with {entries} entries");
 }

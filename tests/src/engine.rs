@@ -9,6 +9,8 @@ pub const FRAME_ANSWER: usize = 8;
 pub const LIST_ANSWER: usize = 132;
 pub const SEARCH_ANSWER: usize = 136;
 pub const CLOSENESS_ANSWER: usize = 8;
+/// What a line of a screen takes.
+pub const LINE: usize = 9;
 
 extern "C" {
     fn fennelrake_start(state: *mut u8, state_len: usize, capacity: u32, life: u32) -> u32;
@@ -17,6 +19,7 @@ extern "C" {
     fn fennelrake_postings(state: *const u8, state_len: usize, term: u32, out: *mut u8, out_len: usize) -> u64;
     fn fennelrake_search(state: *const u8, state_len: usize, frame: *const u8, frame_len: usize, answer: *mut u8, answer_len: usize) -> u32;
     fn fennelrake_closeness(state: *const u8, state_len: usize, serial: u32, number: u32, answer: *mut u8, answer_len: usize) -> u32;
+    fn fennelrake_screen(state: *const u8, state_len: usize, lines: u32, out: *mut u8, out_len: usize) -> u64;
     #[allow(clippy::too_many_arguments)]
     fn fennelrake_write(
         kind: u32, time: u32, serial: u32, urgency: u32, number: u32, k: u32, pairs: u32,
@@ -135,6 +138,11 @@ pub mod raw {
         reading(state, answer, |s, n, a, m| unsafe { fennelrake_closeness(s, n, serial, number, a, m) })
     }
 
+    pub fn screen(state: &Lent, lines: u32, out: &mut Lent) -> u64 {
+        // SAFETY: as above
+        reading(state, out, |s, n, o, m| unsafe { fennelrake_screen(s, n, lines, o, m) })
+    }
+
     pub fn write(f: &Fields, out: &mut Lent) -> u64 {
         let terms: Vec<u8> = f.terms.iter().flat_map(|t| t.to_be_bytes()).collect();
         let (mut terms, mut amounts) = (Lent::new(&terms), Lent::new(&f.amounts));
@@ -169,6 +177,22 @@ fn judged(answer: &mut Lent, call: impl FnOnce(&mut Lent) -> u32) -> u32 {
     let r = call(answer);
     assert!(r == 0 || unanswered.bytes() == answer.bytes(), "a refusal wrote an answer");
     r
+}
+
+/// What a call writes that returns a number and how many things it wrote, of so many bytes each, or the number that refuses it. Bytes that the output
+/// holds past them must stay.
+fn written(held: &[u8], each: usize, call: impl FnOnce(&mut Lent) -> u64) -> Result<Vec<u8>, u32> {
+    let mut out = Lent::new(held);
+    let r = call(&mut out);
+    let (number, count) = ((r >> 32) as u32, r as u32 as usize);
+    let length = if number == 0 { each * count } else { 0 };
+    assert!(length <= held.len(), "{count} of {each} bytes in {}", held.len());
+    assert!(out.bytes()[length..] == held[length..], "output past what is written changed");
+    if number != 0 {
+        assert_eq!(count, 0, "a refusal returned a count");
+        return Err(number);
+    }
+    Ok(out.bytes()[..length].to_vec())
 }
 
 /// The reply; a refusal must leave state and answer as they were.
@@ -207,16 +231,8 @@ pub fn list_into(state: &Lent, number: u32, answer: &mut Lent) -> u32 {
 
 /// The postings of a term, written into output of so many bytes, or the number that refuses it.
 pub fn postings(state: &Lent, term: u32, room: usize) -> Result<Vec<(u32, u32)>, u32> {
-    let mut out = Lent::new(&vec![0xa5; room]);
-    let r = raw::postings(state, term, &mut out);
-    let (number, count) = ((r >> 32) as u32, r as u32 as usize);
-    let written = if number == 0 { 8 * count } else { 0 };
-    assert!(out.bytes()[written..].iter().all(|&b| b == 0xa5), "output past what is written changed");
-    if number != 0 {
-        assert_eq!(count, 0, "a refusal returned a count");
-        return Err(number);
-    }
-    Ok((0..count).map(|i| (word(out.bytes(), 2 * i), word(out.bytes(), 2 * i + 1))).collect())
+    let pairs = written(&vec![0xa5; room], 8, |out| raw::postings(state, term, out))?;
+    Ok(pairs.chunks(8).map(|p| (word(p, 0), word(p, 1))).collect())
 }
 
 /// The list that a search finds and the postings that it reads, or the number that refuses it.
@@ -235,6 +251,20 @@ pub fn closeness(state: &Lent, serial: u32, number: u32) -> Result<(u32, u32), u
 
 pub fn closeness_into(state: &Lent, serial: u32, number: u32, answer: &mut Lent) -> u32 {
     judged(answer, |answer| raw::closeness(state, serial, number, answer))
+}
+
+/// Query, serial and score.
+pub type Line = (u32, u32, u32);
+
+/// The lines of a screen, written into output of so many bytes, or the number that refuses it.
+pub fn screen(state: &Lent, lines: u32, room: usize) -> Result<Vec<Line>, u32> {
+    screen_over(state, lines, &vec![0xa5; room])
+}
+
+/// The same into output that holds bytes already: those past the lines must stay.
+pub fn screen_over(state: &Lent, lines: u32, held: &[u8]) -> Result<Vec<Line>, u32> {
+    let placed = written(held, LINE, |out| raw::screen(state, lines, out))?;
+    Ok(placed.chunks(LINE).map(|line| (line[0] as u32, word(&line[1..], 0), word(&line[1..], 1))).collect())
 }
 
 /// The fields of a frame to write: any numbers.
@@ -258,16 +288,7 @@ pub fn write(f: &Fields, room: usize) -> Result<Vec<u8>, u32> {
 
 /// The same into output that holds bytes already: those past the frame must stay.
 pub fn write_over(f: &Fields, held: &[u8]) -> Result<Vec<u8>, u32> {
-    let mut out = Lent::new(held);
-    let r = raw::write(f, &mut out);
-    let (number, length) = ((r >> 32) as u32, r as u32 as usize);
-    let written = if number == 0 { length } else { 0 };
-    assert!(out.bytes()[written..] == held[written..], "output past the frame changed");
-    if number != 0 {
-        assert_eq!(length, 0, "a refusal returned a length");
-        return Err(number);
-    }
-    Ok(out.bytes()[..length].to_vec())
+    written(held, 1, |out| raw::write(f, out))
 }
 
 // ---- what the state memory keeps (docs/STATE.md)
@@ -296,6 +317,11 @@ pub fn any_in_slot(r: &mut Random, words: usize) -> usize {
 pub fn record_at(q: usize) -> usize {
     HEADER + SLOTS * SLOT + 60 * q
 }
+
+/// Where a record has the number of its list's entries, their serials and their keys.
+pub const LISTED: usize = 10;
+pub const SERIALS: usize = 19;
+pub const KEYS: usize = 35;
 
 /// A word of the state memory.
 pub fn state_word(bytes: &[u8], i: usize) -> u32 {

@@ -1,5 +1,5 @@
-//! The paper log of the document, a full ranking after each frame, a search step by step, and a closeness by its formula. It shares no code with the
-//! engine and is written for plainness.
+//! The paper log of the document, a full ranking after each frame, a search step by step, a closeness by its formula, and a screen by sorting all
+//! entries. It shares no code with the engine and is written for plainness.
 
 pub use passage::{Form, Frame};
 use std::collections::VecDeque;
@@ -116,6 +116,22 @@ pub fn asked(bytes: &[u8]) -> Result<Query, u32> {
     }
 }
 
+// ---- a screen
+
+/// How many lines a screen can have.
+pub const MOST_LINES: u32 = 512;
+
+/// The first number that refuses a screen of so many lines: 12 where the state hasn't its length, 5, and 12 where the output, of so many bytes, can't
+/// hold them all.
+pub fn judge_screen(state_fits: bool, lines: u32, room: usize) -> Result<(), u32> {
+    match lines {
+        _ if !state_fits => Err(12),
+        _ if lines > MOST_LINES => Err(5),
+        _ if room < 9 * lines as usize => Err(12),
+        _ => Ok(()),
+    }
+}
+
 // ---- the log
 
 #[derive(Clone)]
@@ -206,6 +222,16 @@ impl Log {
         let mut all = self.ranked(q);
         all.truncate(q.k);
         all
+    }
+
+    /// Query, serial and score of each line of a screen. An entry's round is its place in its list: all entries by round, and in it by query, are the
+    /// lines of a screen without an end.
+    pub fn screen(&self, lines: u32) -> Vec<(u32, u32, u32)> {
+        let registered = self.queries.iter().zip(0..).filter_map(|(q, number)| Some((q.as_ref()?, number)));
+        let entries = registered.flat_map(|(q, number)| self.ranking(q).into_iter().enumerate().map(move |(round, e)| (round, number, e)));
+        let mut all: Vec<(usize, u32, (u32, u32))> = entries.collect();
+        all.sort_by_key(|&(round, number, _)| (round, number));
+        all.into_iter().take(lines as usize).map(|(_, number, (serial, score))| (number, serial, score)).collect()
     }
 
     /// Among equal impacts the later stands first, whatever its urgency.

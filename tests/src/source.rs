@@ -305,6 +305,20 @@ pub fn serial_and_number(r: &mut Random, log: &Log) -> (u32, u32) {
     (serial, number)
 }
 
+/// So many lines to ask a screen for: about as many as there are queries or entries, any that there can be, or more.
+pub fn lines_asked(r: &mut Random, log: &Log) -> u32 {
+    let lists: Vec<u64> = log.queries.iter().flatten().map(|q| log.ranking(q).len() as u64).collect();
+    let (queries, entries) = (lists.len() as u64, lists.iter().sum::<u64>());
+    let lines = match r.below(8) {
+        0 | 1 => r.below(queries + 2),
+        2..=4 => r.below(entries + 3),
+        5 => entries,
+        6 => r.below(513),
+        _ => 511 + r.pick(2, 1 << 31, 3),
+    };
+    lines as u32
+}
+
 /// The terms of a query, with weights in proportion to these counts of a message: eight terms at the most, and no weight above 15.
 pub fn near(r: &mut Random, pairs: &[(u32, u32)]) -> Vec<(u32, u32)> {
     let divisor = (1..=255).rev().find(|d| pairs.iter().all(|p| p.1 % d == 0)).expect("1 divides every count");
