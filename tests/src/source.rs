@@ -305,14 +305,17 @@ pub fn serial_and_number(r: &mut Random, log: &Log) -> (u32, u32) {
     (serial, number)
 }
 
-/// So many lines to ask a screen for: about as many as there are queries or entries, any that there can be, or more.
+/// So many lines to ask a screen for: about as many as there are queries or entries, as some rounds take, any that there can be, or more.
 pub fn lines_asked(r: &mut Random, log: &Log) -> u32 {
     let lists: Vec<u64> = log.queries.iter().flatten().map(|q| log.ranking(q).len() as u64).collect();
     let (queries, entries) = (lists.len() as u64, lists.iter().sum::<u64>());
     let lines = match r.below(8) {
         0 | 1 => r.below(queries + 2),
         2..=4 => r.below(entries + 3),
-        5 => entries,
+        5 => {
+            let rounds = 1 + r.below(*lists.iter().max().unwrap_or(&0) + 1);
+            lists.iter().map(|n| rounds.min(*n)).sum()
+        }
         6 => r.below(513),
         _ => 511 + r.pick(2, 1 << 31, 3),
     };

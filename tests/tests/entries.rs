@@ -1,7 +1,7 @@
 //! Single calls: refusals in their order, lengths lent, the writer, and memory that no call left.
 
-use fennelrake_tests::engine::{self, Fields, Lent, CLOSENESS_ANSWER, FRAME_ANSWER, LIST_ANSWER, LONGEST_FRAME, SEARCH_ANSWER, STATE};
-use fennelrake_tests::paper::{Form, Frame};
+use fennelrake_tests::engine::{self, Fields, Lent, CLOSENESS_ANSWER, FRAME_ANSWER, LINE, LIST_ANSWER, LONGEST_FRAME, SEARCH_ANSWER, STATE};
+use fennelrake_tests::paper::{judge_screen, Form, Frame};
 use fennelrake_tests::random::Random;
 
 fn fresh() -> Lent {
@@ -367,11 +367,12 @@ fn the_longest_frame() {
     }
 }
 
-/// State memory that no sequence of calls left: every call is safe, ends, and writes only within what it was lent. What it answers isn't fixed.
+/// State memory that no sequence of calls left: every call is safe, ends, and writes only within what it was lent. What it answers isn't fixed, but for
+/// a screen's number.
 #[test]
 fn foreign_memory() {
     let mut r = Random::new(13);
-    let (mut changed, mut close) = (0, 0);
+    let (mut changed, mut close, mut placed) = (0, 0, 0);
     for round in 0..200 {
         let bytes = foreign(&mut r, round);
         let mut state = Lent::new(&bytes);
@@ -392,6 +393,7 @@ fn foreign_memory() {
             // and the serial of a slot, so that there is a message
             let (serial, number) = (engine::any_serial(state.bytes(), &mut r), r.pick(4, 1 << 32, 32) as u32);
             close += (engine::raw::closeness(&state, serial, number, &mut Lent::new(&r.bytes(CLOSENESS_ANSWER))) == 0) as usize;
+            placed += foreign_screen(&mut r, &state);
         }
         // a start takes nothing from what the memory held
         assert_eq!(engine::start(&mut state, 3, 100), 0);
@@ -399,6 +401,21 @@ fn foreign_memory() {
     }
     assert!(changed > 200, "hardly a call took a frame into foreign memory: {changed}");
     assert!(close > 20, "hardly a message of foreign memory was close to a query: {close}");
+    assert!(placed > 2000, "hardly an entry of foreign memory was placed: {placed}");
+}
+
+/// A screen of any number of lines, in output that holds any bytes and is often too short, and of state memory that sometimes hasn't its length: its
+/// number goes by these alone. How many lines were placed, which aren't more than that.
+fn foreign_screen(r: &mut Random, state: &Lent) -> usize {
+    let cut = Lent::new(&state.bytes()[1..]);
+    let (state, lines) = (if r.one_in(8) { &cut } else { state }, r.pick(4, 1 << 32, 514) as u32);
+    let needed = LINE * lines.min(513) as usize;
+    let room = if r.one_in(3) { r.below(needed as u64 + 1) as usize } else { needed + r.below(20) as usize };
+    let got = engine::screen_over(state, lines, &r.bytes(room));
+    assert_eq!(got.as_ref().err(), judge_screen(state.bytes().len() == STATE, lines, room).as_ref().err(), "{lines} lines in {room} bytes");
+    let placed = got.map_or(0, |placed| placed.len());
+    assert!(placed <= lines as usize, "{placed} lines of {lines}");
+    placed
 }
 
 fn any_form(r: &mut Random) -> Form {

@@ -1,13 +1,13 @@
-//! Random and hostile sequences of frames: after each one everything is compared with a ranking of the whole log afresh, and after some a search and
-//! closenesses with the log's.
+//! Random and hostile sequences of frames: after each one everything is compared with a ranking of the whole log afresh, and after some a search,
+//! closenesses and a screen with the log's.
 //! FENNELRAKE_SEED picks the seed, FENNELRAKE_ROUNDS how many passages each test runs: `FENNELRAKE_ROUNDS=50 cargo test --release` is a long run.
 
 use fennelrake_tests::board::corners;
 use fennelrake_tests::compare;
-use fennelrake_tests::engine::{self, Lent, Reply, STATE};
+use fennelrake_tests::engine::{self, Lent, Line, Reply, LINE, STATE};
 use fennelrake_tests::paper::{asked, routine, Form, Frame, Log, Message, Query, TOP};
 use fennelrake_tests::random::Random;
-use fennelrake_tests::source::{near, question, serial_and_number, spoil, Source, Style, ORDER};
+use fennelrake_tests::source::{lines_asked, near, question, serial_and_number, spoil, Source, Style, ORDER};
 
 fn setting(name: &str, otherwise: u64) -> u64 {
     std::env::var(name).map_or(otherwise, |v| v.parse().unwrap_or_else(|_| panic!("{name} must be a number, and is '{v}'")))
@@ -118,6 +118,29 @@ enum Event {
     /// By 10: the number isn't in use, or above 31.
     ClosenessOfANumberNotInUse,
     ClosenessOfNoNumber,
+    /// A screen has more lines than there are entries, and just as many; and fewer than there are queries with an entry.
+    ScreenOfMoreLinesThanEntries,
+    ScreenOfAsManyLinesAsEntries,
+    ScreenOfFewerLinesThanQueries,
+    /// Entries are left, and the last line is not that of a round after the first; or it is.
+    ScreenEndingWithinARound,
+    ScreenEndingWithARound,
+    /// There are three rounds or more; and the last of them, of a screen of several queries, is one query's alone.
+    ScreenOfSeveralRounds,
+    ScreenOfOneQueryAtLast,
+    /// Between two queries of a round one has no entry left; has none at all; or has been dropped.
+    ScreenPastAnEndedList,
+    ScreenPastAnEmptyList,
+    ScreenPastADroppedNumber,
+    /// A message has lines of two queries.
+    ScreenOfAMessageTwice,
+    /// Nothing is placed, there being queries without an entry, or none.
+    ScreenOfEmptyLists,
+    ScreenOfNoQuery,
+    /// It is refused by 5; and by 12 for its output, which can't hold the lines that would be placed, or only those that wouldn't.
+    ScreenOfTooManyLines,
+    ScreenTooShort,
+    ScreenTooShortForLinesLeft,
     /// A threshold is as high as an impact can be.
     ThresholdAtTheTop,
     /// A message of kind 7 arrives with no more pairs than kind 6 can say.
@@ -139,7 +162,7 @@ enum Event {
     ClosenessByLatePairs,
 }
 
-const EVENTS: [Event; 84] = [
+const EVENTS: [Event; 100] = [
     Event::SerialUsedAgain,
     Event::TwoInOneSecond,
     Event::LeavingAsOneArrives,
@@ -211,6 +234,22 @@ const EVENTS: [Event; 84] = [
     Event::ClosenessOfNeither,
     Event::ClosenessOfANumberNotInUse,
     Event::ClosenessOfNoNumber,
+    Event::ScreenOfMoreLinesThanEntries,
+    Event::ScreenOfAsManyLinesAsEntries,
+    Event::ScreenOfFewerLinesThanQueries,
+    Event::ScreenEndingWithinARound,
+    Event::ScreenEndingWithARound,
+    Event::ScreenOfSeveralRounds,
+    Event::ScreenOfOneQueryAtLast,
+    Event::ScreenPastAnEndedList,
+    Event::ScreenPastAnEmptyList,
+    Event::ScreenPastADroppedNumber,
+    Event::ScreenOfAMessageTwice,
+    Event::ScreenOfEmptyLists,
+    Event::ScreenOfNoQuery,
+    Event::ScreenOfTooManyLines,
+    Event::ScreenTooShort,
+    Event::ScreenTooShortForLinesLeft,
     Event::ThresholdAtTheTop,
     Event::ArrivalOfFewInKind7,
     Event::LongArrival,
@@ -261,6 +300,34 @@ impl Met {
         self.note(Event::ClosenessBetween, (1..1000).contains(&close.0) && close.1 > 0);
         self.note(Event::ClosenessOfNothing, close == (0, 0));
         self.note(Event::ClosenessByLatePairs, exceeds_by_late_pairs(m, q, &[0; 8]));
+    }
+
+    /// The lines placed of those asked for, where a list has these entries, by number. A round is a run of rising numbers.
+    fn note_screen(&mut self, lists: &[Option<usize>], dropped: &[bool], lines: usize, placed: &[Line]) {
+        let entries: usize = lists.iter().flatten().sum();
+        let rounds: Vec<&[Line]> = placed.chunk_by(|a, b| a.0 < b.0).collect();
+        let with = |n: usize| lists.iter().flatten().filter(|entries| **entries >= n).count();
+        self.note(Event::ScreenOfMoreLinesThanEntries, 0 < entries && entries < lines);
+        self.note(Event::ScreenOfAsManyLinesAsEntries, 0 < entries && entries == lines);
+        self.note(Event::ScreenOfFewerLinesThanQueries, 0 < lines && lines < with(1));
+        self.note(Event::ScreenOfEmptyLists, lines > 0 && entries == 0 && with(0) > 0);
+        self.note(Event::ScreenOfNoQuery, lines > 0 && with(0) == 0);
+        let Some(last) = rounds.last() else { return };
+        let left = placed.len() < entries && rounds.len() > 1;
+        self.note(Event::ScreenEndingWithinARound, left && last.len() < with(rounds.len()));
+        self.note(Event::ScreenEndingWithARound, left && last.len() == with(rounds.len()));
+        self.note(Event::ScreenOfSeveralRounds, rounds.len() > 2);
+        self.note(Event::ScreenOfOneQueryAtLast, with(rounds.len()) == 1 && rounds[0].len() > 1);
+        // the numbers that a round has no line of, with the round
+        let between = |round: &&[Line], number: u32| round[0].0 < number && number < round[round.len() - 1].0;
+        let past = |is: &dyn Fn(usize, usize) -> bool| {
+            let mut all = (1..).zip(&rounds).flat_map(|(n, round)| (0..32).filter(move |&q| between(round, q)).map(move |q| (n, q as usize)));
+            all.any(|(n, q)| is(n, q))
+        };
+        self.note(Event::ScreenPastAnEndedList, past(&|n, q| lists[q].is_some_and(|entries| 0 < entries && entries < n)));
+        self.note(Event::ScreenPastAnEmptyList, past(&|_, q| lists[q] == Some(0)));
+        self.note(Event::ScreenPastADroppedNumber, past(&|_, q| lists[q].is_none() && dropped[q]));
+        self.note(Event::ScreenOfAMessageTwice, placed.iter().any(|a| placed.iter().any(|b| a.0 < b.0 && a.1 == b.1)));
     }
 
     /// Why no message is in force at a time under a serial: none ever had it, or the last that had it is cancelled and fills its place, aged, or
@@ -599,6 +666,20 @@ impl Passage {
         }
     }
 
+    /// A screen of any number of lines in output of any length.
+    fn compare_screen(&mut self, lines: u32, room: usize) {
+        let (log, met) = (&self.log, &mut self.met);
+        let lists: Vec<Option<usize>> = log.queries.iter().map(|q| Some(log.ranking(q.as_ref()?).len())).collect();
+        match compare::screen(&self.state, log, lines, room) {
+            Ok(placed) => met.note_screen(&lists, &self.dropped, lines as usize, &placed),
+            Err(5) => met.note(Event::ScreenOfTooManyLines, true),
+            Err(_) => {
+                let fits = LINE * lists.iter().flatten().sum::<usize>() <= room;
+                met.note(if fits { Event::ScreenTooShortForLinesLeft } else { Event::ScreenTooShort }, true);
+            }
+        }
+    }
+
     /// The closeness of a message in force, where there is one, to a query that is made to suit it, often with one thing off.
     fn compare_near(&mut self, r: &mut Random) {
         let in_force = self.log.in_force();
@@ -654,6 +735,7 @@ fn run_from(start: u32, style: Style, frames: usize, own_seed: u64, ruled_out: &
         let mut r = Random::new(!seed.wrapping_add(round));
         let mut asking = Random::new(seed.wrapping_add(round).rotate_left(32));
         let mut close = Random::new(seed.wrapping_add(round).rotate_left(16));
+        let mut screened = Random::new(seed.wrapping_add(round).rotate_left(48));
         let mut p = Passage::new(style.capacity, style.life);
         p.hand(&tick(start));
         for _ in 0..frames {
@@ -671,6 +753,11 @@ fn run_from(start: u32, style: Style, frames: usize, own_seed: u64, ruled_out: &
                 let (serial, number) = serial_and_number(&mut close, &p.log);
                 p.compare_closeness(serial, number);
                 p.compare_near(&mut close);
+            }
+            if screened.one_in(4) {
+                let lines = lines_asked(&mut screened, &p.log);
+                let needed = LINE * lines.min(513) as usize;
+                p.compare_screen(lines, if screened.one_in(8) { screened.below(needed as u64 + 20) as usize } else { needed });
             }
         }
         met.add(&p.met);
@@ -726,6 +813,11 @@ fn one_message_in_force() {
         Event::SearchGoingOnAtTheSum,
         Event::SearchOfUrgency,
         Event::ClosenessBesideACancelledOne,
+        Event::ScreenEndingWithinARound,
+        Event::ScreenEndingWithARound,
+        Event::ScreenOfSeveralRounds,
+        Event::ScreenOfOneQueryAtLast,
+        Event::ScreenPastAnEndedList,
     ];
     let style = Style { capacity: 1, life: 50, terms: 40, rare: 34, counts: 3, serials: 4, queries: 8, entries: 16, step: 4, jump: 10, cancels: 18 };
     run(style, 1500, 2, &ruled_out);
@@ -809,6 +901,7 @@ fn one_score() {
         Event::SearchEnding,
         Event::SearchOfTiedTerms,
         Event::SearchSeeingAgain,
+        Event::ScreenPastAnEmptyList,
         Event::ThresholdAtTheTop,
     ];
     let style = Style { capacity: 9, life: 40, terms: 1, rare: 0, counts: 3, serials: 30, queries: 6, entries: 4, step: 2, jump: 30, cancels: 9 };

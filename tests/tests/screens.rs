@@ -210,9 +210,7 @@ fn lent(b: &Board, state: usize, lines: u32, room: usize) -> Result<Vec<Line>, u
 #[test]
 fn refused_in_order() {
     let b = Board::c10();
-    for (state, lines, room, want) in
-        [(STATE + 1, 513, 17, 12), (STATE, 513, 17, 5), (STATE, 512, 17, 12), (STATE, 2, 17, 12), (STATE, 2, 18, 0)]
-    {
+    for (state, lines, room, want) in [(STATE + 1, 513, 17, 12), (STATE, 513, 17, 5), (STATE, 512, 17, 12), (STATE, 2, 17, 12), (STATE, 2, 18, 0)] {
         assert_eq!(lent(&b, state, lines, room).err().unwrap_or(0), want, "{state} bytes of state, {lines} lines, {room} bytes of output");
     }
 }
