@@ -14,6 +14,7 @@ mod proved;
 mod reading;
 mod report;
 mod rows;
+mod screens;
 mod search;
 mod tables;
 mod workload;
@@ -27,10 +28,11 @@ fn main() {
         ["--count"] => count::print(),
         ["--search"] => search::print(),
         ["--closeness"] => closeness::print(),
+        ["--screens"] => screens::print(),
         ["--earlier", path] => report::beside_earlier(path),
         [path] if !path.starts_with('-') => report::print(path),
         _ => {
-            eprintln!("usage: bench [--count | --search | --closeness | --earlier LIBRARY.so | PLOT.svg]");
+            eprintln!("usage: bench [--count | --search | --closeness | --screens | --earlier LIBRARY.so | PLOT.svg]");
             std::process::exit(2);
         }
     }

@@ -1,7 +1,7 @@
 //! The proved engine, as a C host calls it: of the archive that the bench is linked with, or of an earlier one.
 
 use crate::plain::Method;
-use fennelrake_tests::engine::{word, CLOSENESS_ANSWER, FRAME_ANSWER, LIST_ANSWER, SEARCH_ANSWER, STATE};
+use fennelrake_tests::engine::{word, CLOSENESS_ANSWER, FRAME_ANSWER, LINE, LIST_ANSWER, SEARCH_ANSWER, STATE};
 use std::ffi::{c_char, c_int, c_void, CStr, CString};
 use std::marker::PhantomData;
 use std::sync::OnceLock;
@@ -16,6 +16,7 @@ extern "C" {
     fn fennelrake_list(state: *const u8, state_len: usize, number: u32, answer: *mut u8, answer_len: usize) -> u32;
     fn fennelrake_search(state: *const u8, state_len: usize, frame: *const u8, frame_len: usize, answer: *mut u8, answer_len: usize) -> u32;
     fn fennelrake_closeness(state: *const u8, state_len: usize, serial: u32, number: u32, answer: *mut u8, answer_len: usize) -> u32;
+    fn fennelrake_screen(state: *const u8, state_len: usize, lines: u32, out: *mut u8, out_len: usize) -> u64;
     fn dlopen(path: *const c_char, flags: c_int) -> *mut c_void;
     fn dlsym(library: *mut c_void, name: *const c_char) -> *mut c_void;
 }
@@ -114,6 +115,27 @@ impl Proved {
         assert_eq!(refusal, 0);
         answer
     }
+
+    /// How many lines a screen places.
+    pub fn screen(&self, lines: u32, out: &mut [u8]) -> usize {
+        let out = &mut out[..LINE * lines as usize];
+        // SAFETY: as above
+        let placed = unsafe { fennelrake_screen(self.state.as_ptr(), STATE, lines, out.as_mut_ptr(), out.len()) };
+        assert_eq!(placed >> 32, 0);
+        placed as usize
+    }
+}
+
+impl<A: Archive> Engine<A> {
+    pub fn state(&self) -> &[u8] {
+        &self.state
+    }
+
+    /// The number by which a list is answered.
+    pub fn list_into(&self, number: u32, answer: &mut [u8; LIST_ANSWER]) -> u32 {
+        // SAFETY: as above
+        unsafe { (A::calls().list)(self.state.as_ptr(), self.state.len(), number, answer.as_mut_ptr(), LIST_ANSWER) }
+    }
 }
 
 impl<A: Archive> Method for Engine<A> {
@@ -136,8 +158,7 @@ impl<A: Archive> Method for Engine<A> {
 
     fn list(&self, q: usize) -> Vec<(u32, u32)> {
         let mut answer = [0; LIST_ANSWER];
-        // SAFETY: as above
-        assert_eq!(unsafe { (A::calls().list)(self.state.as_ptr(), self.state.len(), q as u32, answer.as_mut_ptr(), LIST_ANSWER) }, 0);
+        assert_eq!(self.list_into(q as u32, &mut answer), 0);
         (0..word(&answer, 0) as usize).map(|i| (word(&answer, 1 + i), word(&answer, 17 + i))).collect()
     }
 }

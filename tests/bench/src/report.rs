@@ -3,7 +3,7 @@
 use crate::measure::{beside, measured, Row, EARLIER, RIVALS};
 use crate::proved::Earlier;
 use crate::workload::{Departure, Passage, Setting, Workload, GRADED, MESSAGES, SEED, SHARED, UNGRADED, WORKLOADS};
-use crate::{closeness, impacts, plot, reading, search};
+use crate::{closeness, impacts, plot, reading, screens, search};
 
 /// The classroom: so many engines on one machine, each taking in so many messages.
 const BOARDS: u64 = 40;
@@ -125,6 +125,8 @@ pub fn print(path: &str) {
     search::print();
     println!("\nA closeness, N 256; the ratio is the plain way's time over the proved one's:\n");
     closeness::print();
+    println!("\nA screen; the ratio is the other way's time over the proved one's:\n");
+    screens::print();
     println!("\nThe impacts of a message alone, in plain Rust; the ratio is the way's time over that of the unit and the table:\n");
     impacts::print();
     println!("\nReading a frame alone; the ratio is the plain reader's time over the proved one's:\n");
