@@ -407,12 +407,15 @@ fn foreign_memory() {
 /// A screen of any number of lines, in output that holds any bytes and is often too short, and of state memory that sometimes hasn't its length: its
 /// number goes by these alone. How many lines were placed, which aren't more than that.
 fn foreign_screen(r: &mut Random, state: &Lent) -> usize {
-    let cut = Lent::new(&state.bytes()[1..]);
-    let (state, lines) = (if r.one_in(8) { &cut } else { state }, r.pick(4, 1 << 32, 514) as u32);
+    let mut bytes = state.bytes().to_vec();
+    if r.one_in(8) {
+        bytes.resize(STATE - 1 + 2 * r.below(2) as usize, 0);
+    }
+    let lines = r.pick(4, 1 << 32, 514) as u32;
     let needed = LINE * lines.min(513) as usize;
     let room = if r.one_in(3) { r.below(needed as u64 + 1) as usize } else { needed + r.below(20) as usize };
-    let got = engine::screen_over(state, lines, &r.bytes(room));
-    assert_eq!(got.as_ref().err(), judge_screen(state.bytes().len() == STATE, lines, room).as_ref().err(), "{lines} lines in {room} bytes");
+    let got = engine::screen_over(&Lent::new(&bytes), lines, &r.bytes(room));
+    assert_eq!(got.as_ref().err(), judge_screen(bytes.len() == STATE, lines, room).as_ref().err(), "{lines} lines in {room} bytes");
     let placed = got.map_or(0, |placed| placed.len());
     assert!(placed <= lines as usize, "{placed} lines of {lines}");
     placed

@@ -138,9 +138,8 @@ fn empty_lists() {
     let b = listing((0..32).map(|number| (number, 0)));
     [0, 1, 31, 32, 512].into_iter().for_each(|lines| assert_eq!(b.screen(lines), []));
     let b = listing([(0, 0), (1, 2), (2, 0), (30, 1), (31, 0)]);
-    let whole = [(1, 1), (30, 16), (1, 2)];
     (0..=4).for_each(|lines| assert_eq!(numbers(&b, lines), [1, 30, 1][..3.min(lines as usize)]));
-    assert_eq!(serials(&b), whole);
+    assert_eq!(serials(&b), [(1, 1), (30, 16), (1, 2)]);
 }
 
 #[test]
@@ -199,7 +198,7 @@ fn urgencies() {
 
 // ---- refusals
 
-/// A screen of C10's board, whose state memory is cut or lengthened so.
+/// A screen of state memory that is cut or lengthened so.
 fn lent(b: &Board, state: usize, lines: u32, room: usize) -> Result<Vec<Line>, u32> {
     let mut bytes = b.state.bytes().to_vec();
     bytes.resize(state, 0);

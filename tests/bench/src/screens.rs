@@ -97,7 +97,7 @@ struct Boards {
 }
 
 impl Boards {
-    /// Sixteen messages of one term, and so many queries of each of these lengths.
+    /// So many queries of each of these lengths, all for a term that sixteen messages have.
     fn new(lists: &[(usize, usize)]) -> Self {
         let mut proved = Proved::start(256, 65535);
         for (number, k) in lists.iter().flat_map(|&(queries, k)| std::iter::repeat_n(k, queries)).enumerate() {
