@@ -122,7 +122,7 @@ enum Event {
     ScreenOfMoreLinesThanEntries,
     ScreenOfAsManyLinesAsEntries,
     ScreenOfFewerLinesThanQueries,
-    /// Entries are left, and the last line is not that of a round after the first; or it is.
+    /// Entries are left, and the lines end within a round after the first; or with one.
     ScreenEndingWithinARound,
     ScreenEndingWithARound,
     /// There are three rounds or more; and the last of them, of a screen of several queries, is one query's alone.
@@ -318,15 +318,12 @@ impl Met {
         self.note(Event::ScreenEndingWithARound, left && last.len() == with(rounds.len()));
         self.note(Event::ScreenOfSeveralRounds, rounds.len() > 2);
         self.note(Event::ScreenOfOneQueryAtLast, with(rounds.len()) == 1 && rounds[0].len() > 1);
-        // the numbers that a round has no line of, with the round
-        let between = |round: &&[Line], number: u32| round[0].0 < number && number < round[round.len() - 1].0;
-        let past = |is: &dyn Fn(usize, usize) -> bool| {
-            let mut all = (1..).zip(&rounds).flat_map(|(n, round)| (0..32).filter(move |&q| between(round, q)).map(move |q| (n, q as usize)));
-            all.any(|(n, q)| is(n, q))
-        };
-        self.note(Event::ScreenPastAnEndedList, past(&|n, q| lists[q].is_some_and(|entries| 0 < entries && entries < n)));
-        self.note(Event::ScreenPastAnEmptyList, past(&|_, q| lists[q] == Some(0)));
-        self.note(Event::ScreenPastADroppedNumber, past(&|_, q| lists[q].is_none() && dropped[q]));
+        // each round with each number that it passes
+        let numbers = |round: &[Line]| round[0].0 as usize..round[round.len() - 1].0 as usize;
+        let passed: Vec<(usize, usize)> = (1..).zip(&rounds).flat_map(|(n, round)| numbers(round).map(move |q| (n, q))).collect();
+        self.note(Event::ScreenPastAnEndedList, passed.iter().any(|&(n, q)| lists[q].is_some_and(|entries| 0 < entries && entries < n)));
+        self.note(Event::ScreenPastAnEmptyList, passed.iter().any(|&(_, q)| lists[q] == Some(0)));
+        self.note(Event::ScreenPastADroppedNumber, passed.iter().any(|&(_, q)| lists[q].is_none() && dropped[q]));
         self.note(Event::ScreenOfAMessageTwice, placed.iter().any(|a| placed.iter().any(|b| a.0 < b.0 && a.1 == b.1)));
     }
 
