@@ -23,10 +23,10 @@ use Rattle.memory.specs.Words.{bigBytes}
 use Rattle.rank.specs.Listing.{lineWith, shown}
 use Rattle.query.specs.Record.{keys, list, entryAt}
 use Rattle.query.proofs.PlaceLaws.{keys-most}
-use Rattle.screen.specs.declared.Waiting.{Waiting}
 use Rattle.screen.specs.Lines.{lineBytes, screenBytes}
-use Rattle.screen.specs.Post.{queueAfter, waits, lineAfter, allQueues, numbersIn, Known, Left, linesInto, Shared}
+use Rattle.screen.specs.Post.{queueAfter, waits, lineAfter, allQueues, Known, Left, linesInto, Shared}
 use Rattle.screen.proofs.LineLaws.{lines-length, lines-put}
+use Rattle.screen.proofs.WaitLaws.{all-known}
 
 -- ---- a round
 
@@ -88,6 +88,10 @@ take-lesser m n l = by-bool (leb m n) (λ e. less (leb-true m n e)) (λ e. more 
     more : n < m → take m (take n l) ≡ take (min n m) l
     more h = let e : min n m ≡ n = omega arith in rw e (take-all m (take n l) (simp length-take (omega arith)))
 
+screen-nobody : (B : ℕ) → screen B [] ≡ []
+unfolding longest
+screen-nobody B = screen-none B [] refl
+
 screen-zero : (qs : List Queue) → screen 0 qs ≡ []
 unfolding screen
 screen-zero qs = refl
@@ -122,61 +126,63 @@ ended w {i} (q ∷ ns) h =
     omega (arith, ended w ns h, list-length w i q, keys-most w q)
 
 -- `done` is written, and with what is left to be written it is the screen
-pub record Placing (w : List ℕ) (B : ℕ) (out₀ out : List ℕ) (a : Waiting) (placed i : ℕ) : Type 0 where
-  pub known : Known a
+pub record Placing (w : List ℕ) (B : ℕ) (out₀ out : List ℕ) (ns : List ℕ) (count placed i : ℕ) : Type 0 where
+  pub known : Known ns count
   pub most : placed ≤ B
   pub round : i ≤ mostListed
   pub long : length out ≡ length out₀
   done : List Placed
-  count : placed ≡ length done
+  written : placed ≡ length done
   lines : out ≡ linesInto done out₀
-  rest : done ++ screen (B - placed) (map (queueAfter w i) (numbersIn a)) ≡ screen B (allQueues w)
+  rest : done ++ screen (B - placed) (map (queueAfter w i) (take count ns)) ≡ screen B (allQueues w)
 
-pub placing-none : {w : List ℕ} {B : ℕ} {out : List ℕ} {a : Waiting} {placed i : ℕ} → placed ≡ 0 → i ≡ 0 → Known a × (numbersIn a ≡ upward 0 numbers)
-    → Placing w B out out a placed i
+pub placing-none : {w : List ℕ} {B : ℕ} {out ns : List ℕ} {count placed i : ℕ} → count ≡ numbers → placed ≡ 0 → i ≡ 0 → ns ≡ upward 0 numbers
+    → Placing w B out out ns count placed i
 unfolding screenBytes
-placing-none {B = B} z y k =
+placing-none {B = B} {ns = ns} x z y k =
     let e : B - 0 ≡ B = omega arith in
-    rw (z, y) (record { known = k .0; most = omega arith; round = omega arith; long = refl; done = []; count = refl; lines = refl; rest = rw (e, k .1) })
+    let all : take numbers ns ≡ upward 0 numbers = take-all numbers ns (omega (arith, all-known k .long)) ∙ k in
+    rw (x, z, y)
+    (record { known = all-known k; most = omega arith; round = omega arith; long = refl; done = []; written = refl; lines = refl; rest = rw (e, all) })
 
-module _ {w : List ℕ} {B : ℕ} {out₀ out : List ℕ} {a b : Waiting} {placed i n : ℕ} (room : screenLineLength * B ≤ length out₀) (h : i < mostListed)
-    (left : Left w i a b) (is : n ≡ min (b .count) (B - placed)) (p : Placing w B out₀ out a placed i) where
+module _ {w : List ℕ} {B : ℕ} {out₀ out : List ℕ} {ns ns′ : List ℕ} {count count′ placed i n : ℕ} (room : screenLineLength * B ≤ length out₀) (h : i < mostListed)
+    (left : Left w i ns count ns′ count′) (is : n ≡ min count′ (B - placed)) (p : Placing w B out₀ out ns count placed i) where
   -- each of those that are left waits
-  waiting : (q : ℕ) → In q (numbersIn b) → waits w i q ≡ true
-  waiting q m = select-in (waits w i) q (numbersIn a) (subst (In q) (left .right) m) .1
+  waiting : (q : ℕ) → In q (take count′ ns′) → waits w i q ≡ true
+  waiting q m = select-in (waits w i) q (take count ns) (subst (In q) (left .right) m) .1
 
-  pub still : (j : ℕ) → j < n → (getD (b .numbers) j 0 < numbers) × (i < length (keys w (getD (b .numbers) j 0)))
+  pub still : (j : ℕ) → j < n → (getD ns′ j 0 < numbers) × (i < length (keys w (getD ns′ j 0)))
   still j k =
-      let within : j < b .count = omega arith in
-      let member : In (getD (b .numbers) j 0) (numbersIn b) =
-      subst (λ (q : ℕ). In q (numbersIn b)) (getD-take (b .count) (b .numbers) j 0 within)
-      (in-getD 0 (numbersIn b) j (simp length-take (omega (arith, left .known .long, left .known .most)))) in
-      (left .known .below j within, ltb-true i (length (keys w (getD (b .numbers) j 0))) (waiting (getD (b .numbers) j 0) member))
+      let within : j < count′ = omega arith in
+      let member : In (getD ns′ j 0) (take count′ ns′) =
+      subst (λ (q : ℕ). In q (take count′ ns′)) (getD-take count′ ns′ j 0 within)
+      (in-getD 0 (take count′ ns′) j (simp length-take (omega (arith, left .known .long, left .known .most)))) in
+      (left .known .below j within, ltb-true i (length (keys w (getD ns′ j 0))) (waiting (getD ns′ j 0) member))
 
   abbrev lines : List Placed
-  lines = map (lineAfter w i) (take n (b .numbers))
+  lines = map (lineAfter w i) (take n ns′)
 
   lines-count : length lines ≡ n
-  lines-count = length-map (take n (b .numbers)) (lineAfter w i) ∙ length-take-le n (b .numbers) (omega (arith, left .known .long, left .known .most))
+  lines-count = length-map (take n ns′) (lineAfter w i) ∙ length-take-le n ns′ (omega (arith, left .known .long, left .known .most))
 
   -- of the lines of this round as many as may be
-  this-round : take (B - placed) (round (map (queueAfter w i) (numbersIn b))) ≡ lines
+  this-round : take (B - placed) (round (map (queueAfter w i) (take count′ ns′))) ≡ lines
   this-round =
-      ap (take (B - placed)) (round-lines w i (numbersIn b) waiting)
-      ∙ take-map (lineAfter w i) (B - placed) (numbersIn b)
-      ∙ ap (map (lineAfter w i)) (take-lesser (B - placed) (b .count) (b .numbers) ∙ ap (λ (m : ℕ). take m (b .numbers)) (sym is))
+      ap (take (B - placed)) (round-lines w i (take count′ ns′) waiting)
+      ∙ take-map (lineAfter w i) (B - placed) (take count′ ns′)
+      ∙ ap (map (lineAfter w i)) (take-lesser (B - placed) count′ ns′ ∙ ap (λ (m : ℕ). take m ns′) (sym is))
 
-  next : screen (B - placed) (map (queueAfter w i) (numbersIn a)) ≡ lines ++ screen (B - (placed + n)) (map (queueAfter w (i + 1)) (numbersIn b))
+  next : screen (B - placed) (map (queueAfter w i) (take count ns)) ≡ lines ++ screen (B - (placed + n)) (map (queueAfter w (i + 1)) (take count′ ns′))
   next =
-      let count : length (round (map (queueAfter w i) (numbersIn b))) ≡ b .count =
-      ap length (round-lines w i (numbersIn b) waiting)
-      ∙ length-map (numbersIn b) (lineAfter w i)
-      ∙ length-take-le (b .count) (b .numbers) (omega (arith, left .known .long, left .known .most)) in
-      let less : B - placed - length (round (map (queueAfter w i) (numbersIn b))) ≡ B - (placed + n) = omega arith in
-      sym (screen-skip (waits w i) (queueAfter w i) (no-entry w i) (B - placed) (numbersIn a))
+      let size : length (round (map (queueAfter w i) (take count′ ns′))) ≡ count′ =
+      ap length (round-lines w i (take count′ ns′) waiting)
+      ∙ length-map (take count′ ns′) (lineAfter w i)
+      ∙ length-take-le count′ ns′ (omega (arith, left .known .long, left .known .most)) in
+      let less : B - placed - length (round (map (queueAfter w i) (take count′ ns′))) ≡ B - (placed + n) = omega arith in
+      sym (screen-skip (waits w i) (queueAfter w i) (no-entry w i) (B - placed) (take count ns))
       ∙ ap (λ (ns : List ℕ). screen (B - placed) (map (queueAfter w i) ns)) (sym (left .right))
-      ∙ screen-round (B - placed) (map (queueAfter w i) (numbersIn b))
-      ∙ ap₂ {C = List Placed} (λ x y. x ++ y) this-round (ap₂ screen less (served-next w i (numbersIn b)))
+      ∙ screen-round (B - placed) (map (queueAfter w i) (take count′ ns′))
+      ∙ ap₂ {C = List Placed} (λ x y. x ++ y) this-round (ap₂ screen less (served-next w i (take count′ ns′)))
 
   -- the part that is left of the output
   abbrev end : ℕ
@@ -185,9 +191,9 @@ module _ {w : List ℕ} {B : ℕ} {out₀ out : List ℕ} {a b : Waiting} {place
   abbrev free : ℕ
   free = length out - end
 
-  pub placing-more : {part : List ℕ} → part ≡ linesInto lines (take free (drop end out)) → Placing w B out₀ (putMid end free out part) b (placed + n) (i + 1)
+  pub placing-more : {part : List ℕ} → part ≡ linesInto lines (take free (drop end out)) → Placing w B out₀ (putMid end free out part) ns′ count′ (placed + n) (i + 1)
   placing-more {part} bytes =
-      let count = p .count in
+      let before = p .written in
       let written : putMid end free out part ≡ linesInto (p .done ++ lines) out₀ =
       lines-put (p .done) lines out₀ end free (p .lines) (omega arith) (omega (arith, lines-count, p .long, p .most))
       (omega (arith, p .long, p .most)) bytes in
@@ -198,17 +204,22 @@ module _ {w : List ℕ} {B : ℕ} {out₀ out : List ℕ} {a b : Waiting} {place
         round = omega arith;
         long = ap length written ∙ lines-length (p .done ++ lines) out₀ (omega (arith, p .most));
         done = p .done ++ lines;
-        count = all;
+        written = all;
         lines = written;
         rest = append-assoc (p .done) lines _ ∙ ap (λ (l : List Placed). p .done ++ l) (sym next) ∙ p .rest;
       }
 
--- lines or entries have ended
-pub placing-all : {w : List ℕ} {B : ℕ} {out₀ out : List ℕ} {a : Waiting} {placed i : ℕ} → (mostListed ≤ i) ⊎ (B ≤ placed) → Placing w B out₀ out a placed i
-    → Shared w B out₀ placed out
-placing-all {w} {B} {out₀} {out} {a} {placed} {i} end p =
-    let none : screen (B - placed) (map (queueAfter w i) (numbersIn a)) ≡ [] =
-    ⊎-elim (λ h. screen-none (B - placed) (map (queueAfter w i) (numbersIn a)) (ended w (numbersIn a) h))
-    (λ h. let z : B - placed ≡ 0 = omega arith in ap (λ (m : ℕ). screen m (map (queueAfter w i) (numbersIn a))) z ∙ screen-zero (map (queueAfter w i) (numbersIn a))) end in
+-- lines or entries have ended: all rounds are over, or all lines are placed, or no query waits
+pub placing-all : {w : List ℕ} {B : ℕ} {out₀ out ns : List ℕ} {count placed i : ℕ} → (mostListed ≤ i) ⊎ ((B ≤ placed) ⊎ (count ≤ 0))
+    → Placing w B out₀ out ns count placed i → Shared w B out₀ placed out
+placing-all {w} {B} {out₀} {out} {ns} {count} {placed} {i} end p =
+    let none : screen (B - placed) (map (queueAfter w i) (take count ns)) ≡ [] =
+    ⊎-elim (λ h. screen-none (B - placed) (map (queueAfter w i) (take count ns)) (ended w (take count ns) h)) (⊎-elim no-lines no-query) end in
     let all : p .done ≡ screen B (allQueues w) = sym (append-nil (p .done)) ∙ ap (λ (l : List Placed). p .done ++ l) (sym none) ∙ p .rest in
-    record { count = p .count ∙ ap length all; lines = p .lines ∙ ap (λ (l : List Placed). linesInto l out₀) all }
+    record { count = p .written ∙ ap length all; lines = p .lines ∙ ap (λ (l : List Placed). linesInto l out₀) all }
+  where
+    no-lines : B ≤ placed → screen (B - placed) (map (queueAfter w i) (take count ns)) ≡ []
+    no-lines h = let z : B - placed ≡ 0 = omega arith in rw z (screen-zero (map (queueAfter w i) (take count ns)))
+
+    no-query : count ≤ 0 → screen (B - placed) (map (queueAfter w i) (take count ns)) ≡ []
+    no-query h = let z : count ≡ 0 = omega arith in rw z (screen-nobody (B - placed))

@@ -3,10 +3,10 @@ use Prim.Native.Nat.{ℕ, zero, suc, _+_, _≤_, _<_}
 use native.Mathlib.Nat.{not-suc-le-zero}
 use native.Mathlib.Numerals.{add-one}
 use native.Mathlib.Omega.{arith}
-use mathlib.Core.Path.{_≡_, refl, sym, ap, ap₂, _∙_}
+use mathlib.Core.Path.{_≡_, refl, sym, ap, _∙_}
 use mathlib.Core.List.{List, [], _∷_, _++_, append-nil}
 use lib.ListN.{length, getD, take, set, length-set}
-use lib.Seq.{take-all, take-suc, take-suc-set, getD-set-same, getD-set-other, ext-getD}
+use lib.Seq.{take-suc, take-suc-set, getD-set-same, getD-set-other, ext-getD}
 use borrow.Author.Count.{below-more}
 use borrow.Author.Tests.{lt-ltb, le-ltb}
 use Rattle.paper.specs.Frame.{numbers}
@@ -14,8 +14,7 @@ use Rattle.paper.specs.Sort.{select}
 use Rattle.paper.specs.Screen.{upward}
 use Rattle.paper.proofs.SortLaws.{select-append}
 use Rattle.query.specs.Record.{keys}
-use Rattle.screen.specs.declared.Waiting.{Waiting}
-use Rattle.screen.specs.Post.{waits, numbersIn, Known, Left}
+use Rattle.screen.specs.Post.{waits, Known, Left}
 
 -- ---- every number
 
@@ -48,46 +47,59 @@ numbering-more {q} {a} h p = record {
       (getD-set-same a q q 0 (omega (arith, p .long)));
 }
 
-pub numbering-all : {q : ℕ} {a : List ℕ} → numbers ≤ q → Numbering q a
-    → let r : Waiting = record { numbers = a; count = numbers } in Known r × (numbersIn r ≡ upward 0 numbers)
-numbering-all {q} {a} h p = (
-  record { long = p .long; most = omega arith; below = λ j k. omega (arith, p .same j (omega arith)) },
-  take-all numbers a (omega (arith, p .long))
-      ∙ ext-getD 0 a (upward 0 numbers) (p .long ∙ sym (upward-length 0 numbers))
-      (λ j k. p .same j (omega (arith, p .long, p .most)) ∙ sym (upward-at 0 numbers j (omega (arith, p .long)) ∙ omega arith)),
-)
+pub numbering-all : {q : ℕ} {a : List ℕ} → numbers ≤ q → Numbering q a → a ≡ upward 0 numbers
+numbering-all {q} {a} h p =
+    ext-getD 0 a (upward 0 numbers) (p .long ∙ sym (upward-length 0 numbers))
+    (λ j k. p .same j (omega (arith, p .long)) ∙ sym (upward-at 0 numbers j (omega (arith, p .long)) ∙ omega arith))
+
+pub all-known : {a : List ℕ} → a ≡ upward 0 numbers → Known a numbers
+all-known e = record {
+  long = ap length e ∙ upward-length 0 numbers;
+  most = omega arith;
+  below = λ j h. rw e (omega (arith, upward-at 0 numbers j h));
+}
 
 -- ---- those with an entry at place i
 
--- of the first j of the numbers, n stand in a
-pub record Choosing (w : List ℕ) (i count : ℕ) (ns : List ℕ) (a : List ℕ) (n j : ℕ) : Type 0 where
+-- of the first j of the numbers, n are in front; those from j on are as they were
+pub record Choosing (w : List ℕ) (i count : ℕ) (ns a : List ℕ) (n j : ℕ) : Type 0 where
   pub bound : j ≤ count
   pub few : n ≤ j
   pub long : length a ≡ numbers
   pub below : (k : ℕ) → k < n → getD a k 0 < numbers
+  pub later : (k : ℕ) → j ≤ k → getD a k 0 ≡ getD ns k 0
   pub right : take n a ≡ select (waits w i) (take j ns)
 
-pub choosing-none : {w : List ℕ} {i count : ℕ} {ns a : List ℕ} {n j : ℕ} → n ≡ 0 → j ≡ 0 → length a ≡ numbers → Choosing w i count ns a n j
+pub choosing-none : {w : List ℕ} {i count : ℕ} {ns : List ℕ} {n j : ℕ} → n ≡ 0 → j ≡ 0 → length ns ≡ numbers → Choosing w i count ns ns n j
 unfolding select
-choosing-none z y l = rw (z, y) (record { bound = omega arith; few = omega arith; long = l; below = λ k h. absurd (omega arith); right = refl })
+choosing-none z y l = rw (z, y) (record { bound = omega arith; few = omega arith; long = l; below = λ k h. absurd (omega arith); later = λ k h. refl; right = refl })
 
-module _ {w : List ℕ} {i count : ℕ} {ns a : List ℕ} {n j q : ℕ} (most : count ≤ numbers) (l : length ns ≡ numbers) (h : j < count) (is : q ≡ getD ns j 0)
-    (p : Choosing w i count ns a n j) where
+module _ {w : List ℕ} {i count : ℕ} {ns a : List ℕ} {n j q : ℕ} (known : Known ns count) (h : j < count) (is : q ≡ getD a j 0) (p : Choosing w i count ns a n j) where
+  number : q ≡ getD ns j 0
+  number = is ∙ p .later j (omega arith)
+
+  pub number-below : q < numbers
+  number-below = rw number (known .below j h)
+
   one-more : select (waits w i) (take (j + 1) ns) ≡ select (waits w i) (take j ns) ++ select (waits w i) (q ∷ [])
-  one-more = rw (add-one j, take-suc ns j 0 (omega arith), ← is) (select-append (waits w i) (take j ns) (q ∷ []))
+  one-more = rw (add-one j, take-suc ns j 0 (omega (arith, known .most, known .long)), ← number) (select-append (waits w i) (take j ns) (q ∷ []))
 
-  pub choosing-kept : q < numbers → i < length (keys w q) → Choosing w i count ns (set a n q) (n + 1) (j + 1)
+  room : n < length a
+  room = omega (arith, p .few, p .long, known .most)
+
+  pub choosing-kept : i < length (keys w q) → Choosing w i count ns (set a n q) (n + 1) (j + 1)
   unfolding select
-  choosing-kept low some = record {
+  choosing-kept some = record {
     bound = omega arith;
-    few = let f = p .few in omega arith;
+    few = omega (arith, p .few);
     long = length-set a n q ∙ p .long;
     below =
         below-more (λ (k : ℕ). getD (set a n q) k 0 < numbers) n (λ k m. rw (getD-set-other a n k q 0 (omega arith)) (p .below k m))
-        (rw (getD-set-same a n q 0 (let f = p .few in omega (arith, p .long))) low);
+        (rw (getD-set-same a n q 0 room) number-below);
+    later = λ k m. getD-set-other a n k q 0 (omega (arith, p .few)) ∙ p .later k (omega arith);
     right =
         ap (λ (m : ℕ). take m (set a n q)) (add-one n)
-        ∙ take-suc-set a n q (let f = p .few in omega (arith, p .long))
+        ∙ take-suc-set a n q room
         ∙ ap (λ (r : List ℕ). r ++ q ∷ []) (p .right)
         ∙ sym (one-more ∙ rw (lt-ltb i (length (keys w q)) some));
   }
@@ -96,17 +108,17 @@ module _ {w : List ℕ} {i count : ℕ} {ns a : List ℕ} {n j q : ℕ} (most : 
   unfolding select
   choosing-passed none = record {
     bound = omega arith;
-    few = let f = p .few in omega arith;
+    few = omega (arith, p .few);
     long = p .long;
     below = p .below;
+    later = λ k m. p .later k (omega arith);
     right = p .right ∙ sym (one-more ∙ rw (le-ltb i (length (keys w q)) none) (append-nil (select (waits w i) (take j ns))));
   }
 
-pub choosing-all : {w : List ℕ} {i n j : ℕ} {a : List ℕ} {before : Waiting} → Known before → before .count ≤ j
-    → Choosing w i (before .count) (before .numbers) a n j → Left w i before (record { numbers = a; count = n })
-choosing-all {w} {i} {n} {j} {a} {before} known h p =
-    let e : j ≡ before .count = let b = p .bound in omega arith in
+pub choosing-all : {w : List ℕ} {i count : ℕ} {ns a : List ℕ} {n j : ℕ} → count ≤ numbers → count ≤ j → Choosing w i count ns a n j → Left w i ns count a n
+choosing-all {w} {i} {count} {ns} {a} {n} {j} most h p =
+    let e : j ≡ count = omega (arith, p .bound) in
     record {
-      known = record { long = p .long; most = let f = p .few in let m = known .most in omega arith; below = p .below };
-      right = p .right ∙ ap (λ (k : ℕ). select (waits w i) (take k (before .numbers))) e;
+      known = record { long = p .long; most = omega (arith, p .few, p .bound); below = p .below };
+      right = p .right ∙ ap (λ (k : ℕ). select (waits w i) (take k ns)) e;
     }

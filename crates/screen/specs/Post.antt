@@ -9,7 +9,6 @@ use Rattle.paper.specs.Frame.{numbers}
 use Rattle.paper.specs.Sort.{select}
 use Rattle.paper.specs.Screen.{Queue, Placed, screen, upward, screenLineLength}
 use Rattle.query.specs.Record.{keys, list, entryAt}
-use Rattle.screen.specs.declared.Waiting.{Waiting}
 use Rattle.screen.specs.Lines.{screenBytes}
 
 -- ---- in the records
@@ -32,18 +31,16 @@ allQueues w = map (queueAfter w 0) (upward 0 numbers)
 
 -- ---- what the functions ensure
 
-abbrev pub numbersIn : Waiting → List ℕ
-numbersIn a = take (a .count) (a .numbers)
+-- the first `count` are numbers of queries
+pub record Known (ns : List ℕ) (count : ℕ) : Type 0 where
+  pub long : length ns ≡ numbers
+  pub most : count ≤ numbers
+  pub below : (j : ℕ) → j < count → getD ns j 0 < numbers
 
-pub record Known (a : Waiting) : Type 0 where
-  pub long : length (a .numbers) ≡ numbers
-  pub most : a .count ≤ numbers
-  pub below : (j : ℕ) → j < a .count → getD (a .numbers) j 0 < numbers
-
--- those that wait still, after i rounds
-pub record Left (w : List ℕ) (i : ℕ) (a r : Waiting) : Type 0 where
-  pub known : Known r
-  pub right : numbersIn r ≡ select (waits w i) (numbersIn a)
+-- of the first `count` those that wait after i rounds are the first r
+pub record Left (w : List ℕ) (i : ℕ) (ns : List ℕ) (count : ℕ) (ns′ : List ℕ) (r : ℕ) : Type 0 where
+  pub known : Known ns′ r
+  pub right : take r ns′ ≡ select (waits w i) (take count ns)
 
 -- lines, and then what stood there before
 abbrev pub linesInto : List Placed → List ℕ → List ℕ

@@ -10,7 +10,7 @@ ghost use Rattle.memory.specs.Words.{words, bigBytes};
 ghost use Rattle.rank.specs.Listing.{lineWith};
 ghost use Rattle.query.specs.Record.{keys};
 ghost use Rattle.screen.specs.Lines.{lineBytes};
-ghost use Rattle.screen.specs.Post.{lineAfter, numbersIn, Known, Left, linesInto, Shared};
+ghost use Rattle.screen.specs.Post.{lineAfter, Known, Left, linesInto, Shared};
 use paper::MOST_LISTED;
 use paper::NUMBERS;
 
@@ -19,52 +19,34 @@ pub const MOST_LINES: u32 = 512;
 
 pub const LINE: usize = 9;
 
-// The numbers of the queries that have an entry left, rising: the first `count`.
-pub struct Waiting {
-    pub numbers: [u8; NUMBERS],
-    pub count: usize,
+// The numbers of all queries, rising.
+fn put_numbers(queries: &mut [u8])
+    requires { ⌜ length (now queries) ≡ numbers ⌝ }
+    ensures { λ _. ⌜ now (queries .exit) ≡ upward 0 numbers ⌝ }
+{
+    let mut q: usize = 0;
+    while q < NUMBERS {
+        queries[q] = q as u8;
+        q += 1;
+    }
 }
 
-impl Waiting {
-    // Every number.
-    fn all() -> Waiting
-        ensures { λ r. ⌜ Known r × (numbersIn r ≡ upward 0 numbers) ⌝ }
-    {
-        let mut numbers = [0u8; NUMBERS];
-        let mut q: usize = 0;
-        while q < NUMBERS {
-            numbers[q] = q as u8;
-            q += 1;
+// Of the first `count` queries those that have an entry at place i move to the front; how many they are.
+fn with_entry(state: &[u8], queries: &mut [u8], count: usize, i: usize) -> usize
+    requires { ⌜ (length (now state) ≡ stateLength) × Known (now queries) count ⌝ }
+    ensures { λ r. ⌜ Left (words (now (state .entry))) i (now (queries .entry)) count (now (queries .exit)) r ⌝ }
+{
+    let mut n: usize = 0;
+    let mut j: usize = 0;
+    while j < count {
+        let q = queries[j];
+        if i < query::listed(state, q as usize) {
+            queries[n] = q;
+            n += 1;
         }
-        Waiting {
-            numbers,
-            count: NUMBERS,
-        }
+        j += 1;
     }
-
-    // Those whose lists have an entry at place i.
-    fn with_entry(self, state: &[u8], i: usize) -> Waiting
-        requires { ⌜ (length (now state) ≡ stateLength) × Known self ⌝ }
-        ensures { λ r. ⌜ Left (words (now (state .entry))) i self r ⌝ }
-    {
-        let count = self.count;
-        let numbers = self.numbers;
-        let mut left = [0u8; NUMBERS];
-        let mut n: usize = 0;
-        let mut j: usize = 0;
-        while j < count {
-            let q = numbers[j];
-            if i < query::listed(state, q as usize) {
-                left[n] = q;
-                n += 1;
-            }
-            j += 1;
-        }
-        Waiting {
-            numbers: left,
-            count: n,
-        }
-    }
+    n
 }
 
 // Serial and score of an entry, the most significant byte first.
@@ -86,10 +68,10 @@ fn put_line(out: &mut [u8], number: u8, serial: u32, score: u32)
 }
 
 // A line for each of the first n queries: that of the entry at place i of its list.
-fn put_round(state: &[u8], queries: [u8; NUMBERS], n: usize, i: usize, out: &mut [u8])
-    requires { ⌜ (length (now state) ≡ stateLength) × (n ≤ numbers) × (screenLineLength * n ≤ length (now out)) ⌝ }
-    requires { ⌜ ((j : ℕ) → j < n → (getD queries j 0 < numbers) × (i < length (keys (words (now state)) (getD queries j 0)))) ⌝ }
-    ensures { λ _. ⌜ now (out .exit) ≡ linesInto (map (lineAfter (words (now (state .entry))) i) (take n queries)) (now (out .entry)) ⌝ }
+fn put_round(state: &[u8], queries: &[u8], n: usize, i: usize, out: &mut [u8])
+    requires { ⌜ (length (now state) ≡ stateLength) × (length (now queries) ≡ numbers) × (n ≤ numbers) × (screenLineLength * n ≤ length (now out)) ⌝ }
+    requires { ⌜ ((j : ℕ) → j < n → (getD (now queries) j 0 < numbers) × (i < length (keys (words (now state)) (getD (now queries) j 0)))) ⌝ }
+    ensures { λ _. ⌜ now (out .exit) ≡ linesInto (map (lineAfter (words (now (state .entry))) i) (take n (now (queries .entry)))) (now (out .entry)) ⌝ }
 {
     let mut j: usize = 0;
     while j < n {
@@ -107,15 +89,16 @@ pub fn share(state: &[u8], lines: usize, out: &mut [u8]) -> usize
     requires { ⌜ (length (now state) ≡ stateLength) × (lines ≤ mostScreenLines) × (screenLineLength * lines ≤ length (now out)) ⌝ }
     ensures { λ r. ⌜ Shared (words (now (state .entry))) lines (now (out .entry)) r (now (out .exit)) ⌝ }
 {
-    let mut waiting = Waiting::all();
+    let mut queries = [0u8; NUMBERS];
+    put_numbers(&mut queries);
+    let mut count = NUMBERS;
     let mut placed: usize = 0;
     let mut i: usize = 0;
-    while i < MOST_LISTED && placed < lines {
-        waiting = waiting.with_entry(state, i);
-        let n = window::lesser(waiting.count, lines - placed);
-        let queries = waiting.numbers;
+    while i < MOST_LISTED && placed < lines && 0 < count {
+        count = with_entry(state, &mut queries, count, i);
+        let n = window::lesser(count, lines - placed);
         let at = LINE * placed;
-        put_round(state, queries, n, i, &mut out[at..]);
+        put_round(state, &queries, n, i, &mut out[at..]);
         placed += n;
         i += 1;
     }
