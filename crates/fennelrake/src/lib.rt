@@ -9,6 +9,7 @@ ghost use Rattle.memory.specs.Words.{bigWords};
 ghost use Rattle.frame.specs.Write.{fields, WritePost};
 ghost use Rattle.engine.specs.Post.{StartPost, PostingsPost, ScreenPost};
 ghost use Rattle.fennelrake.specs.Entry.{listAnswer, FrameEntry, ListEntry, SearchEntry, ClosenessEntry, termsOf, heardFound, heardWriting};
+use engine::Found;
 use paper::MOST_LISTED;
 use paper::MOST_PAIRS;
 
@@ -129,23 +130,28 @@ pub extern "C" fn fennelrake_closeness(
     compared.number
 }
 
-// The postings of a term, into out: serial and impact of each, four bytes each. Number times 2 to the 32, and how many there are.
+// Number times 2 to the 32, and how many were found.
+fn told(found: Found) -> u64
+    ensures { λ r. ⌜ heardFound r ≡ found ⌝ }
+{
+    found.number as u64 * 4294967296 + found.count as u64
+}
+
+// The postings of a term, into out: serial and impact of each, four bytes each. Told is how many there are.
 #[no_mangle]
 pub extern "C" fn fennelrake_postings(state: &[u8], term: u32, out: &mut [u8]) -> u64
     ensures { λ r. ⌜ PostingsPost (now (state .entry)) term (now (out .entry)) (heardFound r) (now (out .exit)) ⌝ }
 {
-    let found = engine::postings(state, term, out);
-    found.number as u64 * 4294967296 + found.count as u64
+    told(engine::postings(state, term, out))
 }
 
-// The lines of one screen for all queries, into out: a query in one byte, then serial and score of its entry, four bytes each. Number times 2 to the 32, and
-// how many lines there are.
+// The lines of one screen for all queries, into out: number of the query in one byte, then serial and score of the entry, four bytes each. Told is how many
+// there are.
 #[no_mangle]
 pub extern "C" fn fennelrake_screen(state: &[u8], lines: u32, out: &mut [u8]) -> u64
     ensures { λ r. ⌜ ScreenPost (now (state .entry)) lines (now (out .entry)) (heardFound r) (now (out .exit)) × (now (state .exit) ≡ now (state .entry)) ⌝ }
 {
-    let found = engine::screen(state, lines, out);
-    found.number as u64 * 4294967296 + found.count as u64
+    told(engine::screen(state, lines, out))
 }
 
 fn wide(x: u8) -> u16
