@@ -1,12 +1,11 @@
 -- One screen: what it answers by its lengths and lines, and where the memory holds a log. Assumes nothing.
-use Prim.Native.Nat.{ℕ, zero, suc, _+_, _*_, _≤_, _<_}
+use Prim.Native.Nat.{ℕ, _*_, _≤_, _<_}
 use native.Mathlib.Omega.{arith}
 use mathlib.Core.Path.{_≡_, refl, sym, ap, _∙_}
 use mathlib.Core.Bool.{Bool, cond}
-use mathlib.Core.Logic.{inl, inr}
-use mathlib.Core.List.{List, [], _∷_, map}
+use mathlib.Core.List.{List, []}
 use mathlib.Core.Option.{Option, none, some}
-use lib.ListN.{length, getD, drop, length-take}
+use lib.ListN.{length, getD, drop}
 use lib.Seq.{drop-at}
 use lib.Dec.{leb}
 use borrow.Author.Tests.{eq-eqb, ne-eqb, le-leb, lt-leb}
@@ -15,13 +14,14 @@ use Rattle.paper.specs.Rank.{Query}
 use Rattle.paper.specs.Order.{In}
 use Rattle.paper.specs.Layout.{stateLength, listedOffset, listedIn}
 use Rattle.paper.specs.Log.{Log, queryAt, inUse, seen, listOf, listed}
-use Rattle.paper.specs.Screen.{Placed, rounds, longest, screen, upward, queueOf, screenOf, mostScreenLines, screenLineLength, judgeScreen, screenIn}
-use Rattle.paper.proofs.ScreenLaws.{screen-skip}
+use Rattle.paper.specs.Screen.{ScreenLine, screen, upward, queueOf, screenOf, mostScreenLines, screenLineLength, judgeScreen, screenIn}
+use Rattle.paper.proofs.ScreenLaws.{screen-most, screen-skip, upward-between}
 use Rattle.memory.specs.Words.{words}
 use Rattle.rank.specs.Listing as listing
 use Rattle.query.specs.Record.{keys, list, HoldsAt}
-use Rattle.screen.specs.Lines.{screenBytes}
-use Rattle.screen.specs.Post.{queueAfter, allQueues, linesInto, Shared}
+use Rattle.query.proofs.RecordLaws.{map-agree}
+use Rattle.screen.specs.Lines.{screenBytes, linesInto}
+use Rattle.screen.specs.Post.{queueAfter, allQueues, Shared}
 use Rattle.screen.proofs.LineLaws.{bytes-length, lines-length}
 use Rattle.engine.specs.Represents.{Represents, oldestOf, countOf}
 use Rattle.engine.specs.Post.{ScreenPost}
@@ -35,16 +35,6 @@ unfolding keys listing.listed
 record-list log w n none h = let e : getD w (listedIn n) 0 ≡ 0 = h listedOffset (omega arith) in rw e refl
 record-list log w n (some q) h = h .settled .ranked
 
-map-same : {A : Type 0} (f g : ℕ → A) (ns : List ℕ) → ((n : ℕ) → In n ns → f n ≡ g n) → map f ns ≡ map g ns
-map-same f g [] h = refl
-map-same f g (n ∷ ns) h = rw (h n (inl refl), map-same f g ns (λ k i. h k (inr i)))
-
-upward-below : (k n m : ℕ) → In k (upward n m) → k < n + m
-unfolding upward
-upward-below k n zero i = absurd i
-upward-below k n (suc m) (inl e) = omega arith
-upward-below k n (suc m) (inr i) = let ih = upward-below k (suc n) m i in omega arith
-
 module _ (s : List ℕ) (long : length s ≡ stateLength) (log : Log) (r : Represents log (words s)) where
   -- the list of a number, as a reading returns it
   reading : (n : ℕ) → listed 0 log stateLength 0 n ≡ listOf (seen log) (queryAt log n)
@@ -53,17 +43,16 @@ module _ (s : List ℕ) (long : length s ≡ stateLength) (log : Log) (r : Repre
   queue-is : (n : ℕ) → In n (upward 0 numbers) → queueAfter (words s) 0 n ≡ queueOf log n
   queue-is n i =
       let e : list (words s) n ≡ listed 0 log stateLength 0 n =
-      record-list log (words s) n (queryAt log n) (r .records n (upward-below n 0 numbers i)) ∙ sym (reading n) in
+      record-list log (words s) n (queryAt log n) (r .records n (upward-between n 0 numbers i .1)) ∙ sym (reading n) in
       λ k. record { number = n; unplaced = e k }
 
   shows-screen : (B : ℕ) → screen B (allQueues (words s)) ≡ screenOf B log
   shows-screen B =
-      ap (screen B) (map-same (queueAfter (words s) 0) (queueOf log) (upward 0 numbers) queue-is)
+      ap (screen B) (map-agree (queueAfter (words s) 0) (queueOf log) (upward 0 numbers) queue-is)
       ∙ sym (screen-skip (λ n. inUse (queryAt log n)) (queueOf log) (λ n e. reading n ∙ unlisted (seen log) (queryAt log n) e) B (upward 0 numbers))
 
-pub shared-most : {w : List ℕ} {B n : ℕ} {out out′ : List ℕ} → Shared w B out n out′ → n ≤ B
-unfolding screen
-shared-most {w} {B} h = omega (arith, h .count, length-take B (rounds (longest (allQueues w)) (allQueues w)))
+pub share-most : {w : List ℕ} {B n : ℕ} {out out′ : List ℕ} → Shared w B out n out′ → n ≤ B
+share-most {w} {B} h = omega (arith, h .count, screen-most B (allQueues w))
 
 -- ---- refused
 
@@ -101,8 +90,8 @@ module _ (s : List ℕ) (B : ℕ) (out : List ℕ) where
       unfolding screenIn
       screen-right {n} {out′} room h =
           let ok = judged (le-leb B mostScreenLines few) (le-leb (screenLineLength * B) (length out) room) in
-          let ps : List Placed = screen B (allQueues (words s)) in
-          let most = shared-most h in
+          let ps : List ScreenLine = screen B (allQueues (words s)) in
+          let most = share-most h in
           record {
             number = sym ok;
             most = most;
@@ -114,5 +103,5 @@ module _ (s : List ℕ) (B : ℕ) (out : List ℕ) where
             refused = λ k. absurd (k refl);
             right = λ log r.
                 let e = shows-screen s long log r B in
-                rw ok (h .count ∙ ap length e, h .lines ∙ ap (λ (l : List Placed). linesInto l out) e);
+                rw ok (h .count ∙ ap length e, h .lines ∙ ap (λ (l : List ScreenLine). linesInto l out) e);
           }

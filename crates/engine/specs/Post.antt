@@ -18,7 +18,7 @@ use Rattle.paper.specs.Demand3 as Demand3
 use Rattle.memory.specs.Words.{words, putWord}
 use Rattle.rank.specs.Listing.{linesOf, TidyLines}
 use Rattle.posting.specs.Lines.{lineBytes}
-use Rattle.screen.specs.Post.{linesInto}
+use Rattle.screen.specs.Lines.{linesInto}
 use Rattle.engine.specs.declared.Reply.{Reply}
 use Rattle.engine.specs.declared.Listing.{Listing}
 use Rattle.engine.specs.declared.Found.{Found}

@@ -9,7 +9,7 @@ use Rattle.paper.specs.Frame.Shape.{accepted}
 use Rattle.paper.specs.Window.{mostMessages}
 use Rattle.paper.specs.Layout.{stateLength}
 use Rattle.paper.specs.Log.{Log, postingLength, posted}
-use Rattle.paper.specs.Screen.{mostScreenLines, screenLineLength, screenIn}
+use Rattle.paper.specs.Screen.{mostScreenLines, screenLineLength, judgeScreen}
 use Rattle.fennelrake.specs.Entry.{frameAnswer, listAnswer, searchAnswer, closenessAnswer}
 
 -- room for every frame that is accepted: a long message of the most pairs is the longest
@@ -20,12 +20,12 @@ frameRoom = bytesFor (bitsOf (widths longRow) countWidth mostPairs)
 abbrev pub postingsRoom : ℕ
 postingsRoom = postingLength * mostMessages
 
--- room for every screen: the most lines
+-- room for every screen that isn't refused for its lines
 abbrev pub screenRoom : ℕ
 screenRoom = screenLineLength * mostScreenLines
 
 pub record Sizes : Type 0 where
   pub frames : (bytes : List ℕ) (f : Frame) → Bytes bytes → shape bytes ≡ accepted f → length bytes ≤ frameRoom
   pub postings : (log : Log) (t : ℕ) → log .N ≤ mostMessages → postingLength * length (posted log t) ≤ postingsRoom
-  pub screens : (log : Log) (B state output : ℕ) → screenLineLength * length (screenIn B log state output) ≤ screenRoom
+  pub screens : (B : ℕ) → B ≤ mostScreenLines → judgeScreen B stateLength screenRoom ≡ 0
   pub within : stateLength + frameRoom + frameAnswer + listAnswer + searchAnswer + closenessAnswer + postingsRoom + screenRoom ≤ 65536

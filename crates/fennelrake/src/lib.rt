@@ -137,7 +137,7 @@ fn told(found: Found) -> u64
     found.number as u64 * 4294967296 + found.count as u64
 }
 
-// The postings of a term, into out: serial and impact of each, four bytes each. Told is how many there are.
+// The postings of a term, into out: serial and impact of each, four bytes each. Number times 2 to the 32, and how many there are.
 #[no_mangle]
 pub extern "C" fn fennelrake_postings(state: &[u8], term: u32, out: &mut [u8]) -> u64
     ensures { λ r. ⌜ PostingsPost (now (state .entry)) term (now (out .entry)) (heardFound r) (now (out .exit)) ⌝ }
@@ -145,8 +145,8 @@ pub extern "C" fn fennelrake_postings(state: &[u8], term: u32, out: &mut [u8]) -
     told(engine::postings(state, term, out))
 }
 
-// The lines of one screen for all queries, into out: number of the query in one byte, then serial and score of the entry, four bytes each. Told is how many
-// there are.
+// The lines of one screen for all queries, into out: the query's number in one byte, then serial and score of its entry, four bytes each. Number times 2 to
+// the 32, and how many there are.
 #[no_mangle]
 pub extern "C" fn fennelrake_screen(state: &[u8], lines: u32, out: &mut [u8]) -> u64
     ensures { λ r. ⌜ ScreenPost (now (state .entry)) lines (now (out .entry)) (heardFound r) (now (out .exit)) × (now (state .exit) ≡ now (state .entry)) ⌝ }

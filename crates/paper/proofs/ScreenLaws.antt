@@ -6,7 +6,7 @@ use mathlib.Core.Path.{_≡_, refl, sym, ap, ap₂, _∙_, subst}
 use mathlib.Core.Bool.{Bool, false}
 use mathlib.Core.Logic.{inl, inr, ⊎-elim}
 use mathlib.Core.List.{List, [], _∷_, _++_, map, map-map, map-id, map-append, append-assoc, append-nil}
-use lib.ListN.{length, take, drop, length-append, length-take, length-drop, length-map, take-append-drop}
+use lib.ListN.{length, getD, take, drop, length-append, length-take, length-drop, length-map, take-append-drop}
 use lib.Dec.{eqb}
 use lib.Seq.{take-all, take-append-seam, take-nil}
 use borrow.Author.Tests.{eq-eqb, ne-eqb}
@@ -15,9 +15,10 @@ use Rattle.paper.specs.Sort.{select}
 use Rattle.paper.specs.Order.{In, Ordered}
 use Rattle.paper.specs.Frame.{numbers}
 use Rattle.paper.specs.Log.{Log, queryAt, inUse}
-use Rattle.paper.specs.Screen.{Queue, Placed, turn, round, served, rounds, longest, screen, upward, numbersInUse, queueOf, queues, screenOf, own, entriesIn, Fair}
+use Rattle.paper.specs.Screen.{Queue, ScreenLine, turn, round, served, rounds, longest, screen, upward}
+use Rattle.paper.specs.Screen.{numbersInUse, queueOf, queues, judgeScreen, screenIn, own, entriesIn, Fair}
 use Rattle.paper.proofs.Tests.{by-bool}
-use Rattle.paper.proofs.SortLaws.{in-append, in-left, in-map, from-map, select-append, select-in}
+use Rattle.paper.proofs.SortLaws.{in-append, in-left, in-map, from-map, in-take, select-append, select-in}
 
 -- ---- round by round
 
@@ -27,13 +28,13 @@ longest-served [] = refl
 longest-served (q ∷ qs) = let ih = longest-served qs in let d = length-drop 1 (q .unplaced) in omega arith
 
 -- nobody has an entry
-nothing : {A : Type 0} (l : List A) → length l ≡ 0 → l ≡ []
-nothing l e = sym (take-all 0 l (omega arith))
+no-element : {A : Type 0} (l : List A) → length l ≡ 0 → l ≡ []
+no-element l e = sym (take-all 0 l (omega arith))
 
 round-none : (qs : List Queue) → longest qs ≡ 0 → round qs ≡ []
 unfolding longest round
 round-none [] e = refl
-round-none (q ∷ qs) e = rw (nothing (q .unplaced) (omega arith)) (round-none qs (omega arith))
+round-none (q ∷ qs) e = rw (no-element (q .unplaced) (omega arith)) (round-none qs (omega arith))
 
 rounds-step : (qs : List Queue) → rounds (longest qs) qs ≡ round qs ++ rounds (longest (map served qs)) (map served qs)
 unfolding rounds
@@ -58,6 +59,11 @@ pub screen-none : (B : ℕ) (qs : List Queue) → longest qs ≡ 0 → screen B 
 unfolding screen rounds
 screen-none B qs e = rw e (take-nil B)
 
+-- lines have ended
+pub screen-most : (B : ℕ) (qs : List Queue) → length (screen B qs) ≤ B
+unfolding screen
+screen-most B qs = omega (arith, length-take B (rounds (longest qs) qs))
+
 -- ---- without those that have no entry
 
 module _ (p : ℕ → Bool) where
@@ -79,7 +85,7 @@ module _ (p : ℕ → Bool) where
   unfolding rounds
   rounds-skip zero f h ns = refl
   rounds-skip (suc k) f h ns =
-      ap₂ {C = List Placed} (λ a b. a ++ b) (round-skip f h ns)
+      ap₂ {C = List ScreenLine} (λ a b. a ++ b) (round-skip f h ns)
       (ap (rounds k) (map-map served f (select p ns))
       ∙ rounds-skip k (λ n. served (f n)) (λ n e. ap (drop 1) (h n e)) ns
       ∙ sym (ap (rounds k) (map-map served f ns)))
@@ -101,10 +107,10 @@ numbers-served : (qs : List Queue) → numbersOf (map served qs) ≡ numbersOf q
 numbers-served qs = map-map (λ (q : Queue). q .number) served qs
 
 module _ (n : ℕ) where
-  own-append : (xs ys : List Placed) → own n (xs ++ ys) ≡ own n xs ++ own n ys
+  own-append : (xs ys : List ScreenLine) → own n (xs ++ ys) ≡ own n xs ++ own n ys
   own-append xs ys =
-      let mine : Placed → Bool = λ p. eqb (p .number) n in
-      rw (select-append mine xs ys, map-append (λ (p : Placed). p .entry) (select mine xs) (select mine ys))
+      let mine : ScreenLine → Bool = λ p. eqb (p .number) n in
+      rw (select-append mine xs ys, map-append (λ (p : ScreenLine). p .entry) (select mine xs) (select mine ys))
 
   own-same : {m : ℕ} (l : List Line) → m ≡ n → own n (map (λ x. record { number = m; entry = x }) l) ≡ l
   unfolding select
@@ -153,7 +159,7 @@ own-rounds (suc n) q qs i a =
     one-more (x ∷ l) = refl
 
 -- a part of the lines has the first of its entries
-own-take : (n B : ℕ) (ps : List Placed) → own n (take B ps) ≡ take (length (own n (take B ps))) (own n ps)
+own-take : (n B : ℕ) (ps : List ScreenLine) → own n (take B ps) ≡ take (length (own n (take B ps))) (own n ps)
 own-take n B ps =
     let e : own n ps ≡ own n (take B ps) ++ own n (drop B ps) = ap (own n) (sym (take-append-drop B ps)) ∙ own-append n (take B ps) (drop B ps) in
     rw e (sym (take-append-seam (own n (take B ps)) (own n (drop B ps))))
@@ -198,27 +204,24 @@ rounds-most (suc n) qs =
     simp (length-append, suc-mul) (omega (arith, round-most qs, rw (length-map qs served) at ih))
 
 -- the first of some rounds
-rounds-first : (m n : ℕ) (qs : List Queue) → m ≤ n → (more : List Placed) × (rounds n qs ≡ rounds m qs ++ more)
+rounds-first : (m n : ℕ) (qs : List Queue) → m ≤ n → (more : List ScreenLine) × (rounds n qs ≡ rounds m qs ++ more)
 unfolding rounds
 rounds-first zero n qs h = (rounds n qs, refl)
 rounds-first (suc m) zero qs h = absurd (not-suc-le-zero h)
 rounds-first (suc m) (suc n) qs h =
     let ih = rounds-first m n (map served qs) (le-of-suc-le-suc h) in
-    (ih .0, ap (λ (l : List Placed). round qs ++ l) (ih .1) ∙ sym (append-assoc (round qs) (rounds m (map served qs)) (ih .0)))
+    (ih .0, ap (λ (l : List ScreenLine). round qs ++ l) (ih .1) ∙ sym (append-assoc (round qs) (rounds m (map served qs)) (ih .0)))
 
 -- ---- whose lines
 
-in-take : {A : Type 0} (a : A) (n : ℕ) (l : List A) → In a (take n l) → In a l
-in-take {A} a n l i = subst (In a) (take-append-drop n l) (in-left a (take n l) (drop n l) i)
-
-in-round : (p : Placed) (qs : List Queue) → In p (round qs) → In (p .number) (numbersOf qs)
+in-round : (p : ScreenLine) (qs : List Queue) → In p (round qs) → In (p .number) (numbersOf qs)
 unfolding round
 in-round p [] i = absurd i
 in-round p (q ∷ qs) i =
-    ⊎-elim (λ j. inl (ap (λ (x : Placed). x .number) (from-map (λ (x : Line). record { number = q .number; entry = x }) p (take 1 (q .unplaced)) j .2)))
+    ⊎-elim (λ j. inl (ap (λ (x : ScreenLine). x .number) (from-map (λ (x : Line). record { number = q .number; entry = x }) p (take 1 (q .unplaced)) j .2)))
     (λ j. inr (in-round p qs j)) (in-append p (turn q) (round qs) i)
 
-in-rounds : (n : ℕ) (p : Placed) (qs : List Queue) → In p (rounds n qs) → In (p .number) (numbersOf qs)
+in-rounds : (n : ℕ) (p : ScreenLine) (qs : List Queue) → In p (rounds n qs) → In (p .number) (numbersOf qs)
 unfolding rounds
 in-rounds zero p qs i = absurd i
 in-rounds (suc n) p qs i =
@@ -244,8 +247,8 @@ module _ (B : ℕ) (qs : List Queue) (apart : Apart (numbersOf qs)) where
         let few : length (rounds m qs) ≤ B =
         omega (arith, rounds-most m qs, mul-le-mul-right {m = m} {n = B / length qs} (length qs) (omega arith), div-mul-le-self B (length qs)) in
         let e : own (q .number) (screen B qs) ≡ own (q .number) (rounds m qs) ++ own (q .number) (take (B - length (rounds m qs)) (part .0)) =
-        ap (λ (l : List Placed). own (q .number) (take B l)) (part .1)
-        ∙ ap (own (q .number)) (take-two B (rounds m qs) (part .0) ∙ ap (λ (l : List Placed). l ++ take (B - length (rounds m qs)) (part .0)) (take-all B (rounds m qs) few))
+        ap (λ (l : List ScreenLine). own (q .number) (take B l)) (part .1)
+        ∙ ap (own (q .number)) (take-two B (rounds m qs) (part .0) ∙ ap (λ (l : List ScreenLine). l ++ take (B - length (rounds m qs)) (part .0)) (take-all B (rounds m qs) few))
         ∙ own-append (q .number) (rounds m qs) (take (B - length (rounds m qs)) (part .0)) in
         omega (arith, simp length-append at (ap length e), ap length (own-rounds m q qs i apart), length-take m (q .unplaced), longest-least q qs i)
 
@@ -256,22 +259,33 @@ module _ (B : ℕ) (qs : List Queue) (apart : Apart (numbersOf qs)) where
     at-most = λ q i. omega (arith, ap length (first q i), length-take (length (own (q .number) (screen B qs))) (q .unplaced));
     in-order = first;
     sum = length-take B (rounds (longest qs) qs) ∙ ap (min B) (rounds-length (longest qs) qs (omega arith));
-    known = λ p i. in-rounds (longest qs) p qs (in-take p B (rounds (longest qs) qs) i);
+    known = λ p i. in-rounds (longest qs) p qs (in-take B (rounds (longest qs) qs) p i);
     none = λ e. rw e (take-nil B);
   }
 
--- ---- of a log
+-- ---- numbers one after the other
 
-upward-least : (k n m : ℕ) → In k (upward n m) → n ≤ k
+pub upward-length : (n m : ℕ) → length (upward n m) ≡ m
 unfolding upward
-upward-least k n zero i = absurd i
-upward-least k n (suc m) (inl e) = omega arith
-upward-least k n (suc m) (inr i) = let ih = upward-least k (suc n) m i in omega arith
+upward-length n zero = refl
+upward-length n (suc m) = ap suc (upward-length (suc n) m)
+
+pub upward-at : (n m j : ℕ) → j < m → getD (upward n m) j 0 ≡ n + j
+unfolding upward
+upward-at n zero j h = absurd (not-suc-le-zero h)
+upward-at n (suc m) zero h = omega arith
+upward-at n (suc m) (suc j) h = upward-at (suc n) m j (omega arith) ∙ omega arith
+
+pub upward-between : (k n m : ℕ) → In k (upward n m) → (n ≤ k) × (k < n + m)
+unfolding upward
+upward-between k n zero i = absurd i
+upward-between k n (suc m) (inl e) = (omega arith, omega arith)
+upward-between k n (suc m) (inr i) = let ih = upward-between k (suc n) m i in (omega arith, omega arith)
 
 upward-apart : (n m : ℕ) → Apart (upward n m)
 unfolding upward
 upward-apart n zero = tt
-upward-apart n (suc m) = (λ k i e. let l = upward-least k (suc n) m i in omega arith, upward-apart (suc n) m)
+upward-apart n (suc m) = (λ k i e. let l = upward-between k (suc n) m i in omega arith, upward-apart (suc n) m)
 
 select-apart : (p : ℕ → Bool) (ns : List ℕ) → Apart ns → Apart (select p ns)
 unfolding select
@@ -280,9 +294,13 @@ select-apart p (n ∷ ns) a =
     let ih = select-apart p ns (a .1) in
     by-bool (p n) (λ e. rw e (λ k i. a .0 k (select-in p k ns i .0), ih)) (λ e. rw e ih)
 
--- whatever the log and B
-pub fair : (B : ℕ) (log : Log) → Fair B (queues log) (screenOf B log)
-fair B log =
-    shared B (queues log)
+-- ---- of a log
+
+-- whatever the log and B, where it isn't refused
+pub fair : (B : ℕ) (log : Log) (state output : ℕ) → judgeScreen B state output ≡ 0 → Fair B (queues log) (screenIn B log state output)
+unfolding screenIn
+fair B log state output ok =
+    rw ok
+    (shared B (queues log)
     (subst Apart (sym (map-map (λ (q : Queue). q .number) (queueOf log) (numbersInUse log) ∙ map-id (numbersInUse log)))
-    (select-apart (λ n. inUse (queryAt log n)) (upward 0 numbers) (upward-apart 0 numbers)))
+    (select-apart (λ n. inUse (queryAt log n)) (upward 0 numbers) (upward-apart 0 numbers))))

@@ -1,6 +1,6 @@
 -- The starred cases of document 01, "Worked passages", under document 02's age rule (T-01); C8, which moves with that rule; cancellations (T-02);
--- urgencies (T-04); searches (T-05); longer messages (T-06); closeness (T-07); screens (T-08); and rows for the order of the refusals 1 to 6 and 14: as one
--- table.
+-- urgencies (T-04); searches (T-05); longer messages (T-06); closeness (T-07); screens (T-08); and rows for the order of the refusals 1 to 6 and
+-- 14: as one table.
 -- proofs/CasesHold.antt has its one theorem. Assumes nothing.
 use Prim.Native.Nat.{ℕ, suc}
 use mathlib.Core.List.{List, [], _∷_, _++_, map}
@@ -15,7 +15,7 @@ use Rattle.paper.specs.Layout.{stateLength}
 use Rattle.paper.specs.Log.{Log, Call, fresh, judge, after, departures, listed}
 use Rattle.paper.specs.Search.{Outcome, refusalOf, judgeSearch, found}
 use Rattle.paper.specs.Closeness.{Closeness, judgeCloseness, closenessIn}
-use Rattle.paper.specs.Screen.{Placed, judgeScreen, screenIn}
+use Rattle.paper.specs.Screen.{ScreenLine, judgeScreen, screenIn}
 
 pub data Case : Type 0 where
   -- the counts of a message's terms; the impact of each
@@ -70,7 +70,7 @@ told r = r .read ∷ flat (lines (r .list))
 abbrev pub compared : Closeness → List ℕ
 compared c = c .quotient ∷ c .remainder ∷ []
 
-abbrev pub inOrder : List Placed → List ℕ
+abbrev pub inOrder : List ScreenLine → List ℕ
 inOrder [] = []
 inOrder (p ∷ ps) = p .number ∷ p .entry .serial ∷ p .entry .score ∷ inOrder ps
 

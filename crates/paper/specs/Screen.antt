@@ -20,16 +20,16 @@ pub record Queue : Type 0 where
   pub unplaced : List Line
 
 -- A line of the screen: an entry, with the number of the query whose list it is in.
-pub record Placed : Type 0 where
+pub record ScreenLine : Type 0 where
   pub number : ℕ
   pub entry : Line
 
 -- a line "for its highest such entry", where a query has one
-abbrev pub turn : Queue → List Placed
+abbrev pub turn : Queue → List ScreenLine
 turn q = map (λ x. record { number = q .number; entry = x }) (take 1 (q .unplaced))
 
 -- "in each, every query with an unplaced entry gets one"
-unfoldable pub round : List Queue → List Placed
+unfoldable pub round : List Queue → List ScreenLine
 round [] = []
 round (q ∷ qs) = turn q ++ round qs
 
@@ -38,7 +38,7 @@ abbrev pub served : Queue → Queue
 served q = record { number = q .number; unplaced = drop 1 (q .unplaced) }
 
 -- the lines of n rounds
-unfoldable pub rounds : ℕ → List Queue → List Placed
+unfoldable pub rounds : ℕ → List Queue → List ScreenLine
 rounds zero qs = []
 rounds (suc n) qs = round qs ++ rounds n (map served qs)
 
@@ -48,7 +48,7 @@ longest [] = 0
 longest (q ∷ qs) = max (length (q .unplaced)) (longest qs)
 
 -- "Lines go out in rounds .. until lines or entries end"
-unfoldable pub screen : ℕ → List Queue → List Placed
+unfoldable pub screen : ℕ → List Queue → List ScreenLine
 screen B qs = take B (rounds (longest qs) qs)
 
 -- ---- of a log
@@ -69,7 +69,7 @@ queueOf log n = record { number = n; unplaced = listed 0 log stateLength 0 n }
 abbrev pub queues : Log → List Queue
 queues log = map (queueOf log) (numbersInUse log)
 
-abbrev pub screenOf : ℕ → Log → List Placed
+abbrev pub screenOf : ℕ → Log → List ScreenLine
 screenOf B log = screen B (queues log)
 
 -- ---- asking
@@ -90,13 +90,13 @@ judgeScreen B state output =
     12
 
 -- "The reply is these lines in order": none where it is refused
-unfoldable pub screenIn : (B : ℕ) → Log → (state output : ℕ) → List Placed
+unfoldable pub screenIn : (B : ℕ) → Log → (state output : ℕ) → List ScreenLine
 screenIn B log state output = cond (eqb (judgeScreen B state output) 0) (screenOf B log) []
 
 -- ---- what queries get
 
 -- the entries that a query has on a screen
-abbrev pub own : ℕ → List Placed → List Line
+abbrev pub own : ℕ → List ScreenLine → List Line
 own n ps = map (λ p. p .entry) (select (λ p. eqb (p .number) n) ps)
 
 -- "all entries"
@@ -105,7 +105,7 @@ entriesIn [] = 0
 entriesIn (q ∷ qs) = length (q .unplaced) + entriesIn qs
 
 -- what document 02 says of B lines for these queries
-pub record Fair (B : ℕ) (qs : List Queue) (ps : List Placed) : Type 0 where
+pub record Fair (B : ℕ) (qs : List Queue) (ps : List ScreenLine) : Type 0 where
   -- "Each query gets at least the lesser of its entries and B divided by the registered queries (rounded down)"
   pub at-least : (q : Queue) → In q qs → min (length (q .unplaced)) (B / length qs) ≤ length (own (q .number) ps)
   -- "and never more lines than entries"
@@ -114,6 +114,7 @@ pub record Fair (B : ℕ) (qs : List Queue) (ps : List Placed) : Type 0 where
   pub in-order : (q : Queue) → In q qs → own (q .number) ps ≡ take (length (own (q .number) ps)) (q .unplaced)
   -- "Lines given sum to the lesser of B and all entries"
   pub sum : length ps ≡ min B (entriesIn qs)
-  -- no line is another's: "With no query registered nothing is placed"
-  pub known : (p : Placed) → In p ps → In (p .number) (map (λ q. q .number) qs)
+  -- every line is a registered query's
+  pub known : (p : ScreenLine) → In p ps → In (p .number) (map (λ q. q .number) qs)
+  -- "With no query registered nothing is placed"
   pub none : qs ≡ [] → ps ≡ []

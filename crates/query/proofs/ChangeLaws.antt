@@ -24,7 +24,7 @@ use Rattle.paper.specs.Layout.{slots, listedIn, thresholdsIn, serialsIn, keysIn
 use Rattle.paper.proofs.Tests.{by-bool}
 use Rattle.paper.proofs.FrameLaws.{level-most}
 use Rattle.paper.proofs.RankLaws.{ranking-length}
-use Rattle.paper.proofs.SortLaws.{in-left, select-length}
+use Rattle.paper.proofs.SortLaws.{in-take, in-left, select-length}
 use Rattle.paper.proofs.LeadLaws.{AtLeast, lastKey, last-key-score, entryStays, leads-entry}
 use Rattle.paper.proofs.PlaceLaws.{Placed, placed-full, placed-short, placed-gone, placed-left, placed-come, placed-low, placed-ranking}
 use Rattle.paper.proofs.ThresholdLaws.{sum-zero, settled-again}
@@ -57,12 +57,6 @@ unfolding lastKey
 last-high b [] h l = absurd (omega arith)
 last-high b (e ∷ []) h l = h e (inl refl)
 last-high b (e ∷ x ∷ xs) h l = last-high b (x ∷ xs) (λ y m. h y (inr m)) (omega arith)
-
-in-take : {A : Type 0} (k : ℕ) (l : List A) (x : A) → In x (take k l) → In x l
-in-take zero l x i = absurd i
-in-take (suc k) [] x i = absurd i
-in-take (suc k) (y ∷ l) x (inl e) = inl e
-in-take (suc k) (y ∷ l) x (inr i) = inr (in-take k l x i)
 
 -- ---- the message that comes
 

@@ -11,11 +11,11 @@ use Rattle.paper.specs.Rank.{keyFactor}
 use Rattle.paper.specs.Layout.{slots, stateWords, listedIn, serialsIn, keysIn, recordAt}
 use Rattle.rank.specs.declared.Ranked.{Ranked}
 use Rattle.rank.specs.Listing.{Keyed, keyedWith, keyedOf, lineWith, shown, lastOf, Tidy, Kept, Removed, grown, without, withouts}
-use Rattle.rank.proofs.LineLaws.{listed-length, listed-at, last-listed}
+use Rattle.rank.proofs.LineLaws.{length-listed-lesser, listed-at, last-listed}
 use Rattle.window.specs.Slot.{slot, next, ring}
 use Rattle.window.proofs.RingLaws.{ring-step, ring-none}
 use Rattle.query.specs.declared.Move.{Move}
-use Rattle.query.specs.Record.{keys, entryAt}
+use Rattle.query.specs.Record.{keys, listedAt}
 use Rattle.query.specs.Post.{Least, WithoutGone, keyIn, WithNewest}
 
 -- ---- the list in the record
@@ -26,7 +26,7 @@ unfolding keys
 keys-most w q =
     omega (
       arith,
-      listed-length (getD w (listedIn q) 0) (take mostListed (drop (serialsIn q) w)) (take mostListed (drop (keysIn q) w)),
+      length-listed-lesser (getD w (listedIn q) 0) (take mostListed (drop (serialsIn q) w)) (take mostListed (drop (keysIn q) w)),
       length-take mostListed (drop (serialsIn q) w),
     )
 
@@ -37,14 +37,14 @@ module _ (w : List ℕ) (q : ℕ) (long : length w ≡ stateWords) (number : q <
   pub keys-length : length (keys w q) ≡ min (getD w (listedIn q) 0) mostListed
   unfolding keys
   keys-length =
-      listed-length (getD w (listedIn q) 0) (take mostListed (drop (serialsIn q) w)) (take mostListed (drop (keysIn q) w))
+      length-listed-lesser (getD w (listedIn q) 0) (take mostListed (drop (serialsIn q) w)) (take mostListed (drop (keysIn q) w))
       ∙ omega (arith, sixteen (serialsIn q) (omega arith), sixteen (keysIn q) (omega arith))
 
   word-at : (a i : ℕ) → i < mostListed → getD (take mostListed (drop a w)) i 0 ≡ getD w (a + i) 0
   word-at a i h = getD-take mostListed (drop a w) i 0 h ∙ getD-drop a w i 0
 
   -- one of its entries
-  pub entry-is : {i s c : ℕ} → i < length (keys w q) → s ≡ getD w (serialsIn q + i) 0 → c ≡ getD w (keysIn q + i) 0 → lineWith s (c / keyFactor) ≡ entryAt w q i
+  pub entry-is : {i s c : ℕ} → i < length (keys w q) → s ≡ getD w (serialsIn q + i) 0 → c ≡ getD w (keysIn q + i) 0 → lineWith s (c / keyFactor) ≡ listedAt w q i
   unfolding keys
   entry-is {i} h es ec =
       let within : i < mostListed = omega (arith, keys-most w q) in

@@ -33,8 +33,8 @@ keys w q = listed keyedWith (getD w (listedIn q) 0) (take mostListed (drop (seri
 abbrev pub list : List ℕ → ℕ → List Line
 list w q = map shown (keys w q)
 
-abbrev pub entryAt : List ℕ → ℕ → ℕ → Line
-entryAt w q i = getD (list w q) i (lineWith 0 0)
+abbrev pub listedAt : List ℕ → ℕ → ℕ → Line
+listedAt w q i = getD (list w q) i (lineWith 0 0)
 
 -- the candidates by serial, in the order of acceptance: the flagged slots of the window, which is n slots from slot o on, as they are in w₀
 unfoldable pub candidates : List ℕ → List ℕ → ℕ → ℕ → ℕ → List ℕ

@@ -13,7 +13,7 @@ ghost use Rattle.window.specs.Table.{termLimit};
 ghost use Rattle.window.specs.Rows.{rowWidth};
 ghost use Rattle.rank.specs.Listing.{scoreLimit, lineWith};
 ghost use Rattle.rank.specs.Weights.{weightLimit};
-ghost use Rattle.query.specs.Record.{keys, entryAt};
+ghost use Rattle.query.specs.Record.{keys, listedAt};
 ghost use Rattle.query.specs.Touch.{Touched};
 ghost use Rattle.query.specs.Post.{Clamped, InRange, LoadedQuery, LoadedThresholds, LoadedList, Lifted, secure, sameFrom, StoredKept, Finished, Attempted, SiftedFrom};
 ghost use Rattle.query.specs.Post.{Retuned, Refilled, SettledFrom, WithoutOne, MovedFlags, Least, KeptList, WithoutGone, WithNewest, Changed, Updated, Packed, PutQuery, Registered, Cleared};
@@ -102,23 +102,23 @@ pub fn listed(state: &[u8], q: usize) -> usize
     if count < MOST_LISTED {
         count as usize
     } else {
-        paper::MOST_LISTED
+        MOST_LISTED as usize
     }
 }
 
 // An entry of a list, as a reading shows it.
-pub struct Shown {
+pub struct Line {
     pub serial: u32,
     pub score: u32,
 }
 
 // The entry at place i of the list that the record holds.
-pub fn entry(state: &[u8], q: usize, i: usize) -> Shown
+pub fn entry(state: &[u8], q: usize, i: usize) -> Line
     requires { ⌜ (length (now state) ≡ stateLength) × (q < numbers) × (i < length (keys (words (now state)) q)) ⌝ }
-    ensures { λ r. ⌜ lineWith (r .serial) (r .score) ≡ entryAt (words (now (state .entry))) q i ⌝ }
+    ensures { λ r. ⌜ lineWith (r .serial) (r .score) ≡ listedAt (words (now (state .entry))) q i ⌝ }
 {
     let at = layout::RECORDS + layout::RECORD * q;
-    Shown {
+    Line {
         serial: memory::get(state, at + layout::SERIALS + i),
         score: memory::get(state, at + layout::KEYS + i) / rank::KEY_FACTOR,
     }

@@ -6,10 +6,9 @@ use mathlib.Core.List.{List, [], _∷_, _++_, append-assoc, append-nil}
 use lib.ListN.{length, take, drop, set, length-append, length-take, length-drop, take-append-drop, drop-of-length-le}
 use lib.Seq.{sets-eq, take-at, drop-at, drop-drop, drop-append-le}
 use borrow.Rule.Slice.PartMut.{putMid}
-use Rattle.paper.specs.Screen.{Placed, screenLineLength}
+use Rattle.paper.specs.Screen.{ScreenLine, screenLineLength}
 use Rattle.memory.specs.Words.{putFour, bigBytes, putBig}
-use Rattle.screen.specs.Lines.{lineBytes, screenBytes}
-use Rattle.screen.specs.Post.{linesInto}
+use Rattle.screen.specs.Lines.{screenLineBytes, screenBytes, linesInto}
 
 -- an entry is all of eight bytes
 module _ (o : List ℕ) (a b : ℕ) (l : length o ≡ 8) where
@@ -20,27 +19,27 @@ module _ (o : List ℕ) (a b : ℕ) (l : length o ≡ 8) where
       rw (e₂, e₁) (sets-eq (bigBytes (a ∷ b ∷ [])) o 0 (omega arith) ∙ rw (drop-of-length-le o h))
 
 -- and a number before it all of nine
-pub line-bytes : (o : List ℕ) (n : ℕ) {b p : List ℕ} → length o ≡ 9 → p ≡ b → putMid 1 (length (set o 0 n) - 1) (set o 0 n) p ≡ n ∷ b
+pub line-bytes : (o : List ℕ) (n : ℕ) {b p : List ℕ} → length o ≡ screenLineLength → p ≡ b → putMid 1 (length (set o 0 n) - 1) (set o 0 n) p ≡ n ∷ b
 line-bytes [] n l e = absurd (omega arith)
 line-bytes (x ∷ o) n {b} l e =
     let h : length o ≤ suc (length o) - 1 = omega arith in
     rw (e, drop-of-length-le o h) (ap (λ (r : List ℕ). n ∷ r) (append-nil b))
 
-pub bytes-length : (ps : List Placed) → length (screenBytes ps) ≡ screenLineLength * length ps
+pub bytes-length : (ps : List ScreenLine) → length (screenBytes ps) ≡ screenLineLength * length ps
 unfolding screenBytes bigBytes
 bytes-length [] = refl
 bytes-length (p ∷ ps) = let ih = bytes-length ps in omega arith
 
-bytes-append : (ps xs : List Placed) → screenBytes (ps ++ xs) ≡ screenBytes ps ++ screenBytes xs
+bytes-append : (ps xs : List ScreenLine) → screenBytes (ps ++ xs) ≡ screenBytes ps ++ screenBytes xs
 unfolding screenBytes
 bytes-append [] xs = refl
-bytes-append (p ∷ ps) xs = ap (λ (s : List ℕ). lineBytes p ++ s) (bytes-append ps xs) ∙ sym (append-assoc (lineBytes p) (screenBytes ps) (screenBytes xs))
+bytes-append (p ∷ ps) xs = ap (λ (s : List ℕ). screenLineBytes p ++ s) (bytes-append ps xs) ∙ sym (append-assoc (screenLineBytes p) (screenBytes ps) (screenBytes xs))
 
-pub lines-length : (ps : List Placed) (out : List ℕ) → screenLineLength * length ps ≤ length out → length (linesInto ps out) ≡ length out
+pub lines-length : (ps : List ScreenLine) (out : List ℕ) → screenLineLength * length ps ≤ length out → length (linesInto ps out) ≡ length out
 lines-length ps out h = simp (length-append, length-drop) (omega (arith, bytes-length ps))
 
 -- more lines, put into a part after those that are there
-module _ (ps xs : List Placed) (out₀ : List ℕ) {out : List ℕ} (at k : ℕ) (e : out ≡ linesInto ps out₀) (start : at ≡ screenLineLength * length ps)
+module _ (ps xs : List ScreenLine) (out₀ : List ℕ) {out : List ℕ} (at k : ℕ) (e : out ≡ linesInto ps out₀) (start : at ≡ screenLineLength * length ps)
     (fits : screenLineLength * length xs ≤ k) (within : at + k ≤ length out) where
   -- what the part leaves alone, with what is after it
   part-rest : drop (screenLineLength * length xs) (take k (drop at out)) ++ drop k (drop at out) ≡ drop (screenLineLength * length xs) (drop at out)

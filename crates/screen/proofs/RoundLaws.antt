@@ -15,33 +15,33 @@ use borrow.Rule.Slice.PartMut.{putMid}
 use Rattle.paper.specs.Frame.{numbers, mostListed}
 use Rattle.paper.specs.Rank.{Line}
 use Rattle.paper.specs.Order.{In}
-use Rattle.paper.specs.Screen.{Queue, Placed, round, served, longest, screen, upward, screenLineLength}
+use Rattle.paper.specs.Screen.{Queue, ScreenLine, round, served, longest, screen, upward, screenLineLength}
 use Rattle.paper.proofs.Tests.{by-bool}
 use Rattle.paper.proofs.SortLaws.{select-in, take-map}
 use Rattle.paper.proofs.ScreenLaws.{screen-round, screen-none, screen-skip}
 use Rattle.memory.specs.Words.{bigBytes}
 use Rattle.rank.specs.Listing.{lineWith, shown}
-use Rattle.query.specs.Record.{keys, list, entryAt}
+use Rattle.query.specs.Record.{keys, list, listedAt}
 use Rattle.query.proofs.PlaceLaws.{keys-most}
-use Rattle.screen.specs.Lines.{lineBytes, screenBytes}
-use Rattle.screen.specs.Post.{queueAfter, waits, lineAfter, allQueues, Known, Left, linesInto, Shared}
+use Rattle.screen.specs.Lines.{screenLineBytes, screenBytes, linesInto}
+use Rattle.screen.specs.Post.{queueAfter, waits, lineAfter, allQueues, QueryNumbers, StillWaiting, Shared}
 use Rattle.screen.proofs.LineLaws.{lines-length, lines-put}
 use Rattle.screen.proofs.WaitLaws.{all-known}
 
 -- ---- a round
 
 -- the lines of the first j queries are written
-pub record Writing (w : List ℕ) (i n : ℕ) (qs out₀ out : List ℕ) (j : ℕ) : Type 0 where
+pub record WritingRound (w : List ℕ) (i n : ℕ) (qs out₀ out : List ℕ) (j : ℕ) : Type 0 where
   pub bound : j ≤ n
   pub long : length out ≡ length out₀
   pub lines : out ≡ linesInto (map (lineAfter w i) (take j qs)) out₀
 
-pub writing-none : {w : List ℕ} {i n : ℕ} {qs out : List ℕ} {j : ℕ} → j ≡ 0 → Writing w i n qs out out j
+pub writing-none : {w : List ℕ} {i n : ℕ} {qs out : List ℕ} {j : ℕ} → j ≡ 0 → WritingRound w i n qs out out j
 unfolding screenBytes
 writing-none z = rw z (record { bound = omega arith; long = refl; lines = refl })
 
 module _ {w : List ℕ} {i n : ℕ} {qs out₀ out : List ℕ} {j : ℕ} (l : length qs ≡ numbers) (few : n ≤ numbers) (room : screenLineLength * n ≤ length out₀)
-    (h : j < n) (p : Writing w i n qs out₀ out j) where
+    (h : j < n) (p : WritingRound w i n qs out₀ out j) where
   -- the part of the next line
   abbrev at : ℕ
   at = screenLineLength * j
@@ -49,19 +49,19 @@ module _ {w : List ℕ} {i n : ℕ} {qs out₀ out : List ℕ} {j : ℕ} (l : le
   abbrev size : ℕ
   size = at + screenLineLength - at
 
-  pub writing-more : {q s c : ℕ} {part : List ℕ} → q ≡ getD qs j 0 → lineWith s c ≡ entryAt w q i → part ≡ lineBytes (record { number = q; entry = lineWith s c })
-      → Writing w i n qs out₀ (putMid at size out part) (j + 1)
+  pub writing-more : {q s c : ℕ} {part : List ℕ} → q ≡ getD qs j 0 → lineWith s c ≡ listedAt w q i → part ≡ screenLineBytes (record { number = q; entry = lineWith s c })
+      → WritingRound w i n qs out₀ (putMid at size out part) (j + 1)
   unfolding screenBytes bigBytes
   writing-more {q} {s} {c} {part} is entry bytes =
-      let ps : List Placed = map (lineAfter w i) (take j qs) in
-      let x : Placed = lineAfter w i q in
+      let ps : List ScreenLine = map (lineAfter w i) (take j qs) in
+      let x : ScreenLine = lineAfter w i q in
       let count : length ps ≡ j = length-map (take j qs) (lineAfter w i) ∙ length-take-le j qs (omega arith) in
       let short : length (take size (drop at out)) ≤ screenLineLength = simp length-take (omega arith) in
       let here : part ≡ linesInto (x ∷ []) (take size (drop at out)) =
-      rw (drop-of-length-le (take size (drop at out)) short) (bytes ∙ ap (λ (y : Line). lineBytes (record { number = q; entry = y })) entry) in
+      rw (drop-of-length-le (take size (drop at out)) short) (bytes ∙ ap (λ (y : Line). screenLineBytes (record { number = q; entry = y })) entry) in
       let lines : putMid at size out part ≡ linesInto (map (lineAfter w i) (take (j + 1) qs)) out₀ =
       lines-put ps (x ∷ []) out₀ at size (p .lines) (omega arith) (omega arith) (omega (arith, p .long)) here
-      ∙ ap (λ (l : List Placed). linesInto l out₀)
+      ∙ ap (λ (l : List ScreenLine). linesInto l out₀)
       (sym (ap (map (lineAfter w i)) (ap (λ (m : ℕ). take m qs) (add-one j) ∙ take-suc qs j 0 (omega arith) ∙ ap (λ (y : ℕ). take j qs ++ y ∷ []) (sym is))
       ∙ map-append (lineAfter w i) (take j qs) (q ∷ []))) in
       record {
@@ -126,27 +126,27 @@ ended w {i} (q ∷ ns) h =
     omega (arith, ended w ns h, list-length w i q, keys-most w q)
 
 -- `done` is written, and with what is left to be written it is the screen
-pub record Placing (w : List ℕ) (B : ℕ) (out₀ out : List ℕ) (ns : List ℕ) (count placed i : ℕ) : Type 0 where
-  pub known : Known ns count
+pub record Sharing (w : List ℕ) (B : ℕ) (out₀ out : List ℕ) (ns : List ℕ) (count placed i : ℕ) : Type 0 where
+  pub known : QueryNumbers ns count
   pub most : placed ≤ B
-  pub round : i ≤ mostListed
+  pub rounds : i ≤ mostListed
   pub long : length out ≡ length out₀
-  done : List Placed
+  done : List ScreenLine
   written : placed ≡ length done
   lines : out ≡ linesInto done out₀
   rest : done ++ screen (B - placed) (map (queueAfter w i) (take count ns)) ≡ screen B (allQueues w)
 
-pub placing-none : {w : List ℕ} {B : ℕ} {out ns : List ℕ} {count placed i : ℕ} → count ≡ numbers → placed ≡ 0 → i ≡ 0 → ns ≡ upward 0 numbers
-    → Placing w B out out ns count placed i
+pub sharing-none : {w : List ℕ} {B : ℕ} {out ns : List ℕ} {count placed i : ℕ} → count ≡ numbers → placed ≡ 0 → i ≡ 0 → ns ≡ upward 0 numbers
+    → Sharing w B out out ns count placed i
 unfolding screenBytes
-placing-none {B = B} {ns = ns} x z y k =
+sharing-none {B = B} {ns = ns} x z y k =
     let e : B - 0 ≡ B = omega arith in
     let all : take numbers ns ≡ upward 0 numbers = take-all numbers ns (omega (arith, all-known k .long)) ∙ k in
     rw (x, z, y)
-    (record { known = all-known k; most = omega arith; round = omega arith; long = refl; done = []; written = refl; lines = refl; rest = rw (e, all) })
+    (record { known = all-known k; most = omega arith; rounds = omega arith; long = refl; done = []; written = refl; lines = refl; rest = rw (e, all) })
 
 module _ {w : List ℕ} {B : ℕ} {out₀ out : List ℕ} {ns ns′ : List ℕ} {count count′ placed i n : ℕ} (room : screenLineLength * B ≤ length out₀) (h : i < mostListed)
-    (left : Left w i ns count ns′ count′) (is : n ≡ min count′ (B - placed)) (p : Placing w B out₀ out ns count placed i) where
+    (left : StillWaiting w i ns count ns′ count′) (is : n ≡ min count′ (B - placed)) (p : Sharing w B out₀ out ns count placed i) where
   -- each of those that are left waits
   waiting : (q : ℕ) → In q (take count′ ns′) → waits w i q ≡ true
   waiting q m = select-in (waits w i) q (take count ns) (subst (In q) (left .right) m) .1
@@ -159,7 +159,7 @@ module _ {w : List ℕ} {B : ℕ} {out₀ out : List ℕ} {ns ns′ : List ℕ} 
       (in-getD 0 (take count′ ns′) j (simp length-take (omega (arith, left .known .long, left .known .most)))) in
       (left .known .below j within, ltb-true i (length (keys w (getD ns′ j 0))) (waiting (getD ns′ j 0) member))
 
-  abbrev lines : List Placed
+  abbrev lines : List ScreenLine
   lines = map (lineAfter w i) (take n ns′)
 
   lines-count : length lines ≡ n
@@ -182,7 +182,7 @@ module _ {w : List ℕ} {B : ℕ} {out₀ out : List ℕ} {ns ns′ : List ℕ} 
       sym (screen-skip (waits w i) (queueAfter w i) (no-entry w i) (B - placed) (take count ns))
       ∙ ap (λ (ns : List ℕ). screen (B - placed) (map (queueAfter w i) ns)) (sym (left .right))
       ∙ screen-round (B - placed) (map (queueAfter w i) (take count′ ns′))
-      ∙ ap₂ {C = List Placed} (λ x y. x ++ y) this-round (ap₂ screen less (served-next w i (take count′ ns′)))
+      ∙ ap₂ {C = List ScreenLine} (λ x y. x ++ y) this-round (ap₂ screen less (served-next w i (take count′ ns′)))
 
   -- the part that is left of the output
   abbrev end : ℕ
@@ -191,8 +191,8 @@ module _ {w : List ℕ} {B : ℕ} {out₀ out : List ℕ} {ns ns′ : List ℕ} 
   abbrev free : ℕ
   free = length out - end
 
-  pub placing-more : {part : List ℕ} → part ≡ linesInto lines (take free (drop end out)) → Placing w B out₀ (putMid end free out part) ns′ count′ (placed + n) (i + 1)
-  placing-more {part} bytes =
+  pub sharing-more : {part : List ℕ} → part ≡ linesInto lines (take free (drop end out)) → Sharing w B out₀ (putMid end free out part) ns′ count′ (placed + n) (i + 1)
+  sharing-more {part} bytes =
       let before = p .written in
       let written : putMid end free out part ≡ linesInto (p .done ++ lines) out₀ =
       lines-put (p .done) lines out₀ end free (p .lines) (omega arith) (omega (arith, lines-count, p .long, p .most))
@@ -201,22 +201,22 @@ module _ {w : List ℕ} {B : ℕ} {out₀ out : List ℕ} {ns ns′ : List ℕ} 
       record {
         known = left .known;
         most = omega (arith, p .most);
-        round = omega arith;
+        rounds = omega arith;
         long = ap length written ∙ lines-length (p .done ++ lines) out₀ (omega (arith, p .most));
         done = p .done ++ lines;
         written = all;
         lines = written;
-        rest = append-assoc (p .done) lines _ ∙ ap (λ (l : List Placed). p .done ++ l) (sym next) ∙ p .rest;
+        rest = append-assoc (p .done) lines _ ∙ ap (λ (l : List ScreenLine). p .done ++ l) (sym next) ∙ p .rest;
       }
 
 -- lines or entries have ended: all rounds are over, or all lines are placed, or no query waits
-pub placing-all : {w : List ℕ} {B : ℕ} {out₀ out ns : List ℕ} {count placed i : ℕ} → (mostListed ≤ i) ⊎ ((B ≤ placed) ⊎ (count ≤ 0))
-    → Placing w B out₀ out ns count placed i → Shared w B out₀ placed out
-placing-all {w} {B} {out₀} {out} {ns} {count} {placed} {i} end p =
+pub sharing-all : {w : List ℕ} {B : ℕ} {out₀ out ns : List ℕ} {count placed i : ℕ} → (mostListed ≤ i) ⊎ ((B ≤ placed) ⊎ (count ≤ 0))
+    → Sharing w B out₀ out ns count placed i → Shared w B out₀ placed out
+sharing-all {w} {B} {out₀} {out} {ns} {count} {placed} {i} end p =
     let none : screen (B - placed) (map (queueAfter w i) (take count ns)) ≡ [] =
     ⊎-elim (λ h. screen-none (B - placed) (map (queueAfter w i) (take count ns)) (ended w (take count ns) h)) (⊎-elim no-lines no-query) end in
-    let all : p .done ≡ screen B (allQueues w) = sym (append-nil (p .done)) ∙ ap (λ (l : List Placed). p .done ++ l) (sym none) ∙ p .rest in
-    record { count = p .written ∙ ap length all; lines = p .lines ∙ ap (λ (l : List Placed). linesInto l out₀) all }
+    let all : p .done ≡ screen B (allQueues w) = sym (append-nil (p .done)) ∙ ap (λ (l : List ScreenLine). p .done ++ l) (sym none) ∙ p .rest in
+    record { count = p .written ∙ ap length all; lines = p .lines ∙ ap (λ (l : List ScreenLine). linesInto l out₀) all }
   where
     no-lines : B ≤ placed → screen (B - placed) (map (queueAfter w i) (take count ns)) ≡ []
     no-lines h = let z : B - placed ≡ 0 = omega arith in rw z (screen-zero (map (queueAfter w i) (take count ns)))

@@ -1,6 +1,5 @@
 -- The queries that have an entry left: at first every number, then those that the last round left one. Assumes nothing.
-use Prim.Native.Nat.{ℕ, zero, suc, _+_, _≤_, _<_}
-use native.Mathlib.Nat.{not-suc-le-zero}
+use Prim.Native.Nat.{ℕ, _+_, _≤_, _<_}
 use native.Mathlib.Numerals.{add-one}
 use native.Mathlib.Omega.{arith}
 use mathlib.Core.Path.{_≡_, refl, sym, ap, _∙_}
@@ -13,21 +12,11 @@ use Rattle.paper.specs.Frame.{numbers}
 use Rattle.paper.specs.Sort.{select}
 use Rattle.paper.specs.Screen.{upward}
 use Rattle.paper.proofs.SortLaws.{select-append}
+use Rattle.paper.proofs.ScreenLaws.{upward-length, upward-at}
 use Rattle.query.specs.Record.{keys}
-use Rattle.screen.specs.Post.{waits, Known, Left}
+use Rattle.screen.specs.Post.{waits, QueryNumbers, StillWaiting}
 
 -- ---- every number
-
-upward-length : (n m : ℕ) → length (upward n m) ≡ m
-unfolding upward
-upward-length n zero = refl
-upward-length n (suc m) = ap suc (upward-length (suc n) m)
-
-upward-at : (n m j : ℕ) → j < m → getD (upward n m) j 0 ≡ n + j
-unfolding upward
-upward-at n zero j h = absurd (not-suc-le-zero h)
-upward-at n (suc m) zero h = omega arith
-upward-at n (suc m) (suc j) h = upward-at (suc n) m j (omega arith) ∙ omega arith
 
 -- the first q stand in a
 pub record Numbering (q : ℕ) (a : List ℕ) : Type 0 where
@@ -52,7 +41,7 @@ numbering-all {q} {a} h p =
     ext-getD 0 a (upward 0 numbers) (p .long ∙ sym (upward-length 0 numbers))
     (λ j k. p .same j (omega (arith, p .long)) ∙ sym (upward-at 0 numbers j (omega (arith, p .long)) ∙ omega arith))
 
-pub all-known : {a : List ℕ} → a ≡ upward 0 numbers → Known a numbers
+pub all-known : {a : List ℕ} → a ≡ upward 0 numbers → QueryNumbers a numbers
 all-known e = record {
   long = ap length e ∙ upward-length 0 numbers;
   most = omega arith;
@@ -74,7 +63,7 @@ pub choosing-none : {w : List ℕ} {i count : ℕ} {ns : List ℕ} {n j : ℕ} �
 unfolding select
 choosing-none z y l = rw (z, y) (record { bound = omega arith; few = omega arith; long = l; below = λ k h. absurd (omega arith); later = λ k h. refl; right = refl })
 
-module _ {w : List ℕ} {i count : ℕ} {ns a : List ℕ} {n j q : ℕ} (known : Known ns count) (h : j < count) (is : q ≡ getD a j 0) (p : Choosing w i count ns a n j) where
+module _ {w : List ℕ} {i count : ℕ} {ns a : List ℕ} {n j q : ℕ} (known : QueryNumbers ns count) (h : j < count) (is : q ≡ getD a j 0) (p : Choosing w i count ns a n j) where
   number : q ≡ getD ns j 0
   number = is ∙ p .later j (omega arith)
 
@@ -115,7 +104,7 @@ module _ {w : List ℕ} {i count : ℕ} {ns a : List ℕ} {n j q : ℕ} (known :
     right = p .right ∙ sym (one-more ∙ rw (le-ltb i (length (keys w q)) none) (append-nil (select (waits w i) (take j ns))));
   }
 
-pub choosing-all : {w : List ℕ} {i count : ℕ} {ns a : List ℕ} {n j : ℕ} → count ≤ numbers → count ≤ j → Choosing w i count ns a n j → Left w i ns count a n
+pub choosing-all : {w : List ℕ} {i count : ℕ} {ns a : List ℕ} {n j : ℕ} → count ≤ numbers → count ≤ j → Choosing w i count ns a n j → StillWaiting w i ns count a n
 choosing-all {w} {i} {count} {ns} {a} {n} {j} most h p =
     let e : j ≡ count = omega (arith, p .bound) in
     record {

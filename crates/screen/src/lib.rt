@@ -9,8 +9,8 @@ ghost use Rattle.paper.specs.Screen.{upward, mostScreenLines, screenLineLength}
 ghost use Rattle.memory.specs.Words.{words, bigBytes};
 ghost use Rattle.rank.specs.Listing.{lineWith};
 ghost use Rattle.query.specs.Record.{keys};
-ghost use Rattle.screen.specs.Lines.{lineBytes};
-ghost use Rattle.screen.specs.Post.{lineAfter, Known, Left, linesInto, Shared};
+ghost use Rattle.screen.specs.Lines.{screenLineBytes, linesInto};
+ghost use Rattle.screen.specs.Post.{lineAfter, QueryNumbers, StillWaiting, Shared};
 use paper::MOST_LISTED;
 use paper::NUMBERS;
 
@@ -33,8 +33,8 @@ fn put_numbers(queries: &mut [u8])
 
 // Of the first `count` queries those that have an entry at place i move to the front; how many they are.
 fn with_entry(state: &[u8], queries: &mut [u8], count: usize, i: usize) -> usize
-    requires { ⌜ (length (now state) ≡ stateLength) × Known (now queries) count ⌝ }
-    ensures { λ r. ⌜ Left (words (now (state .entry))) i (now (queries .entry)) count (now (queries .exit)) r ⌝ }
+    requires { ⌜ (length (now state) ≡ stateLength) × QueryNumbers (now queries) count ⌝ }
+    ensures { λ r. ⌜ StillWaiting (words (now (state .entry))) i (now (queries .entry)) count (now (queries .exit)) r ⌝ }
 {
     let mut n: usize = 0;
     let mut j: usize = 0;
@@ -61,7 +61,7 @@ fn put_entry(out: &mut [u8], serial: u32, score: u32)
 // A line: the query's number, and its entry.
 fn put_line(out: &mut [u8], number: u8, serial: u32, score: u32)
     requires { ⌜ length (now out) ≡ screenLineLength ⌝ }
-    ensures { λ _. ⌜ now (out .exit) ≡ lineBytes (record { number = number; entry = lineWith serial score }) ⌝ }
+    ensures { λ _. ⌜ now (out .exit) ≡ screenLineBytes (record { number = number; entry = lineWith serial score }) ⌝ }
 {
     out[0] = number;
     put_entry(&mut out[1..], serial, score);

@@ -2,7 +2,7 @@
 use native.Mathlib.Omega.{arith}
 use mathlib.Core.Path.{refl}
 use borrow.Author.Needs.{needs}
-use Rattle.engine.proofs.ScreenLaws.{shared-most, screen-not-lent, screen-too-many, screen-no-room, screen-right}
+use Rattle.engine.proofs.ScreenLaws.{share-most, screen-not-lent, screen-too-many, screen-no-room, screen-right}
 use Rattle.engine.proofs.screen.Statement.{statement}
 use Rattle.engine.proofs.screen.Tie as tie
 
@@ -16,7 +16,7 @@ returns-3 : tie.Need-returns-3
 returns-3 c = (screen-no-room _ _ _ (omega arith) (omega arith) (omega arith), refl)
 
 cast-t11 : tie.Need-cast-t11
-cast-t11 c = omega (arith, shared-most (c .before .before .share .ensures))
+cast-t11 c = omega (arith, share-most (c .before .before .share .ensures))
 
 returns-4 : tie.Need-returns-4
 returns-4 c = (screen-right _ _ _ (omega arith) (omega arith) (omega arith) (c .before .before .share .ensures), refl)

@@ -4,12 +4,12 @@ use native.Mathlib.Omega.{arith}
 use mathlib.Core.Path.{_≡_, refl}
 use borrow.Author.Needs.{needs}
 use Rattle.memory.specs.Words.{words}
-use Rattle.screen.proofs.RoundLaws.{Writing, writing-none, writing-more}
+use Rattle.screen.proofs.RoundLaws.{WritingRound, writing-none, writing-more}
 use Rattle.screen.proofs.put_round.Statement.{statement}
 use Rattle.screen.proofs.put_round.Tie as tie
 
 abbrev Inv-loop : tie.InvT-loop
-Inv-loop state queries n i out₀ j₀ out j = Writing (words state) i n queries out₀ out j
+Inv-loop state queries n i out₀ j₀ out j = WritingRound (words state) i n queries out₀ out j
 
 abbrev μ-loop : tie.MeasureT-loop
 μ-loop state queries n i out₀ j₀ out j = n - j

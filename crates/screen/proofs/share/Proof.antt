@@ -8,18 +8,18 @@ use borrow.Author.Needs.{needs}
 use borrow.Author.Tests.{ltb-false}
 use Rattle.paper.specs.Frame.{mostListed}
 use Rattle.memory.specs.Words.{words}
-use Rattle.screen.proofs.RoundLaws.{Placing, placing-none, still, placing-more, placing-all}
+use Rattle.screen.proofs.RoundLaws.{Sharing, sharing-none, still, sharing-more, sharing-all}
 use Rattle.screen.proofs.share.Statement.{statement}
 use Rattle.screen.proofs.share.Tie as tie
 
 abbrev Inv-loop : tie.InvT-loop
-Inv-loop state lines out₀ queries₀ count₀ placed₀ i₀ out queries count placed i = Placing (words state) lines out₀ out queries count placed i
+Inv-loop state lines out₀ queries₀ count₀ placed₀ i₀ out queries count placed i = Sharing (words state) lines out₀ out queries count placed i
 
 abbrev μ-loop : tie.MeasureT-loop
 μ-loop state lines out₀ queries₀ count₀ placed₀ i₀ out queries count placed i = mostListed - i
 
 loop-holds : tie.Need-loop-holds Inv-loop μ-loop
-loop-holds c = placing-none refl refl refl (c .before .put-numbers .ensures)
+loop-holds c = sharing-none refl refl refl (c .before .put-numbers .ensures)
 
 with-entry-requires : tie.Need-with-entry-requires Inv-loop μ-loop
 with-entry-requires c κs =
@@ -43,19 +43,19 @@ loop-again c =
     let least = put .before .before .before in
     let left = least .before .before in
     let l = left .before .before .before .before .before in
-    placing-more (l .before .before .before .before .before .before .pre .2) (omega arith) (left .with-entry .ensures) (least .lesser .ensures) (l .loop .inv)
+    sharing-more (l .before .before .before .before .before .before .pre .2) (omega arith) (left .with-entry .ensures) (least .lesser .ensures) (l .loop .inv)
     (put .put-round .ensures)
 
 returns : tie.Need-returns Inv-loop μ-loop
-returns c = let l = c .before .before .before .loop in placing-all (inr (inr (ltb-false 0 (l .count) (c .if2 .left)))) (l .inv)
+returns c = let l = c .before .before .before .loop in sharing-all (inr (inr (ltb-false 0 (l .count) (c .if2 .left)))) (l .inv)
 
 returns-2 : tie.Need-returns-2 Inv-loop μ-loop
 returns-2 c =
     let l = c .before .before in
-    placing-all (inr (inl (ltb-false (l .loop .placed) (l .before .before .before .before .before .before .args .lines) (c .if1 .left)))) (l .loop .inv)
+    sharing-all (inr (inl (ltb-false (l .loop .placed) (l .before .before .before .before .before .before .args .lines) (c .if1 .left)))) (l .loop .inv)
 
 returns-3 : tie.Need-returns-3 Inv-loop μ-loop
-returns-3 c = placing-all (inl (omega arith)) (c .before .loop .inv)
+returns-3 c = sharing-all (inl (omega arith)) (c .before .loop .inv)
 
 pub share-spec : {M : Type 1} → statement M
 share-spec =
