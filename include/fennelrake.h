@@ -239,8 +239,8 @@ uint32_t fennelrake_closeness(const uint8_t *state, size_t state_length, uint32_
  * more lines than entries; its own lines stand in its list's order. The lines placed are the lesser of `lines` and all entries: none where no query
  * is registered.
  *
- * Writes FENNELRAKE_SCREEN_LINE_SIZE bytes for each line placed, in order: the query (one byte), serial and score. The output must hold as many as
- * `lines`, however few are placed. The state isn't written.
+ * Writes FENNELRAKE_SCREEN_LINE_SIZE bytes for each line placed, in order: the query (one byte), serial and score. The output must have room for all
+ * of `lines`, FENNELRAKE_SCREEN_LINE_SIZE bytes each, however few are placed. The state isn't written.
  *
  * Returns number times 2 to the 32, plus how many lines are placed (0 with a refusal): see fennelrake_number and fennelrake_size.
  *

@@ -368,7 +368,7 @@ fn the_longest_frame() {
 }
 
 /// State memory that no sequence of calls left: every call is safe, ends, and writes only within what it was lent. What it answers isn't fixed, but for
-/// a screen's number.
+/// refusals that go by lengths and arguments alone.
 #[test]
 fn foreign_memory() {
     let mut r = Random::new(13);

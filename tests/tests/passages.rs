@@ -137,7 +137,8 @@ enum Event {
     /// Nothing is placed, there being queries without an entry, or none.
     ScreenOfEmptyLists,
     ScreenOfNoQuery,
-    /// It is refused by 5; and by 12 for its output, which can't hold the lines that would be placed, or only those that wouldn't.
+    /// It is refused by 5; and by 12 for its output, which can't hold the lines that would be placed, or holds
+    /// those and not all that were asked for.
     ScreenOfTooManyLines,
     ScreenTooShort,
     ScreenTooShortForLinesLeft,

@@ -310,7 +310,7 @@ fn random_boards() {
     assert!(met.iter().all(|count| *count > 40), "hardly met: {met:?}");
 }
 
-/// Lists that say more entries than there can be, in memory that no call left: no more lines are placed than were asked for, or than there are.
+/// Lists that say more entries than there can be, in memory that no call left: no more lines are placed than were asked for.
 #[test]
 fn foreign_lengths() {
     let b = listing((0..32).map(|number| (number, 16)));

@@ -93,6 +93,7 @@ fn of_those_left(lists: &impl Lists, out: &mut [u8]) -> usize {
 /// The proved engine, and the output of a screen.
 struct Boards {
     proved: Proved,
+    queries: u32,
     out: [u8; LINE * MOST_LINES as usize],
 }
 
@@ -107,7 +108,8 @@ impl Boards {
             let pairs = vec![(5, 1 + serial), (6, 9)];
             assert!(proved.frame(&Frame::Message { time: 0, serial, form: Form::Plain, pairs }.bytes()).is_ok());
         }
-        Boards { proved, out: [0; LINE * MOST_LINES as usize] }
+        let queries = lists.iter().map(|(queries, _)| *queries as u32).sum();
+        Boards { proved, queries, out: [0; LINE * MOST_LINES as usize] }
     }
 
     /// Placed by one of the ways above, from the state memory.
@@ -120,10 +122,10 @@ impl Boards {
         Ok(way(state, out))
     }
 
-    /// Every list read by a call.
+    /// The list of every query that is registered, read by a call.
     fn host(&mut self, lines: u32) -> usize {
         let mut lists = [[0; LIST_ANSWER]; QUERIES];
-        for (answer, number) in lists.iter_mut().zip(0..) {
+        for (answer, number) in lists.iter_mut().zip(0..self.queries) {
             self.proved.list_into(number, answer);
         }
         of_those_left(&lists, &mut self.out[..LINE * lines as usize])
