@@ -18,7 +18,7 @@ use Rattle.paper.specs.Log.{Log, queryAt, inUse}
 use Rattle.paper.specs.Screen.{Queue, ScreenLine, turn, round, served, rounds, longest, screen, upward}
 use Rattle.paper.specs.Screen.{numbersInUse, queueOf, queues, judgeScreen, screenIn, own, entriesIn, Fair}
 use Rattle.paper.proofs.Tests.{by-bool}
-use Rattle.paper.proofs.SortLaws.{in-append, in-left, in-map, from-map, in-take, select-append, select-in}
+use Rattle.paper.proofs.SortLaws.{in-append, in-map, from-map, in-take, select-append, select-in}
 
 -- ---- round by round
 
