@@ -1,4 +1,6 @@
 // Closeness: the square of the cosine between a message and a query, in tenths of a percent, as quotient and remainder.
+#![tactic(auto)]
+
 ghost use Rattle.std.specs.Prelude.{◌≡◌, ◌≤◌, ◌<◌, min, max, length};
 ghost use Rattle.paper.specs.Frame.{most_terms};
 ghost use Rattle.paper.specs.Layout.{state_length, slots};
@@ -14,7 +16,7 @@ use candidates::Query;
 // All of the scale: counts and weights are in proportion.
 const WHOLE: u64 = 1000;
 
-#[derive(Drop)]
+#[derive(Clone, Copy)]
 pub struct Closeness {
     pub quotient: u32,
     pub remainder: u32,

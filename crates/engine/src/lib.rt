@@ -1,4 +1,6 @@
 // The engine: frames in, a ranked list for each registered query kept in lent memory.
+#![tactic(auto)]
+
 ghost use Rattle.std.specs.Prelude.{◌≡◌, ℕ, ◌+◌, ◌%◌, ◌<◌, ◌≤◌, ◌^◌, map, length, get_or, replicate, take};
 ghost use Rattle.paper.specs.Frame.{Form, Frame, level, urgency_of, grade_of, numbers, term_width, count_width, weight_width, most_pairs, most_terms, most_listed};
 ghost use Rattle.paper.specs.Frame.Urgency.{vital};
@@ -28,33 +30,33 @@ const NUMBERS: u32 = paper::NUMBERS as u32;
 
 const TERMS: u32 = paper::TERMS as u32;
 
-#[derive(Drop)]
+#[derive(Clone, Copy)]
 pub struct Reply {
     pub number: u32,
     pub marks: u32,
     pub departures: u32,
 }
 
-#[derive(Drop)]
+#[derive(Clone, Copy)]
 pub struct Listing {
     pub number: u32,
     pub list: Lines,
 }
 
-#[derive(Drop)]
+#[derive(Clone, Copy)]
 pub struct Found {
     pub number: u32,
     pub count: u32,
 }
 
-#[derive(Drop)]
+#[derive(Clone, Copy)]
 pub struct Searched {
     pub number: u32,
     pub list: Lines,
     pub read: u32,
 }
 
-#[derive(Drop)]
+#[derive(Clone, Copy)]
 pub struct Compared {
     pub number: u32,
     pub quotient: u32,
@@ -390,7 +392,7 @@ fn cancel(state: &mut [u8], time: u32, serial: u32) -> Reply
 }
 
 // The terms and weights of a query.
-#[derive(Drop)]
+#[derive(Clone, Copy)]
 struct Weighted {
     terms: [u32; 8],
     weights: [u32; 8],

@@ -1,4 +1,6 @@
 // The entries for hosts written in C: numbers and lent byte slices only.
+#![tactic(auto)]
+
 ghost use Rattle.std.specs.Prelude.{◌≡◌, ◌∷◌, ◌++◌, ◌+◌, ◌*◌, ◌≤◌, ◌<◌, length, take};
 ghost use Rattle.paper.specs.Frame.{most_pairs};
 ghost use Rattle.paper.specs.Write.{from_fields};

@@ -1,4 +1,6 @@
 // Frames: what a slice of bytes says, and the bytes of a frame's fields.
+#![tactic(auto)]
+
 ghost use Rattle.std.specs.Prelude.{◌≡◌, ℕ, ◌+◌, ◌-◌, ◌*◌, ◌/◌, ◌%◌, ◌≤◌, ◌<◌, ◌^◌, length, take, get_or, eqb, cond, List, ◌∷◌};
 ghost use Rattle.wire.specs.Bits.{unpack};
 ghost use Rattle.wire.specs.Field.{field, placed, total, spell, scan};
@@ -13,7 +15,7 @@ ghost use Rattle.frame.specs.Write.{WritePost, ValuesPost, PutPost, fields, fitt
 use paper::MOST_PAIRS;
 
 // What a frame is, or the number that refuses it. Its pairs stand beside it, in Parsed.
-#[derive(Drop)]
+#[derive(Clone, Copy)]
 pub enum Kind {
     // The form is the kind that it was written in: 1, whose messages are routine, 6 or 7.
     Message {
@@ -45,7 +47,7 @@ pub enum Kind {
 
 // The places of both arrays past the frame's pairs are 0. They are as narrow as their fields allow, since every frame pays for moving them, however few
 // its pairs are.
-#[derive(Drop)]
+#[derive(Clone, Copy)]
 pub struct Parsed {
     pub what: Kind,
     pub terms: [u16; MOST_PAIRS],
@@ -53,7 +55,7 @@ pub struct Parsed {
 }
 
 // A frame's pairs; where they are refused, number says by what, and else is 0.
-#[derive(Drop)]
+#[derive(Clone, Copy)]
 struct PairList {
     number: u32,
     terms: [u16; MOST_PAIRS],
@@ -62,7 +64,7 @@ struct PairList {
 
 // A kind's row of the table: the widths of its fields after the kind, in the first places of an array, and of a count or weight, which is 0 where the
 // kind has no pairs; and the bits of all its fields before the pairs. A kind without a row has no fields.
-#[derive(Drop)]
+#[derive(Clone, Copy)]
 struct Row {
     bits: usize,
     fields: usize,
@@ -346,7 +348,7 @@ pub fn read(bytes: &[u8]) -> Parsed
 }
 
 // What a search asks for: the length of its list, and its terms with their weights; or the number that refuses it, and all else 0.
-#[derive(Drop)]
+#[derive(Clone, Copy)]
 pub struct Asked {
     pub number: u32,
     pub k: u32,
@@ -405,7 +407,7 @@ pub fn read_asked(bytes: &[u8]) -> Asked
 }
 
 // What a writing answers: 0 and the frame's length in bytes, or the refusal and 0.
-#[derive(Drop)]
+#[derive(Clone, Copy)]
 pub struct Written {
     pub number: u32,
     pub length: usize,

@@ -1,4 +1,6 @@
 // The impact of a term in a message: the cosine of document 001, scaled to whole numbers.
+#![tactic(auto)]
+
 ghost use Rattle.std.specs.Prelude.{◌≡◌, ℕ, ◌+◌, ◌*◌, ◌/◌, ◌^◌, ◌<◌, ◌≤◌, min, max, get_or};
 ghost use Rattle.paper.specs.Frame.{term_width, count_width, most_pairs};
 ghost use Rattle.paper.specs.Impact.{top, impact};
@@ -9,7 +11,7 @@ mod squares;
 
 use squares::SQUARES;
 
-#[derive(Drop)]
+#[derive(Clone, Copy)]
 pub struct Impact {
     pub value: u32,
 }

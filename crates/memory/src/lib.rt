@@ -1,4 +1,6 @@
 // Lent memory as words of four bytes: state memory least significant byte first, what is written for a host most significant byte first.
+#![tactic(auto)]
+
 ghost use Rattle.std.specs.Prelude.{◌≡◌, ◌+◌, ◌*◌, ◌<◌, ◌≤◌, length, get_or, take, drop};
 ghost use Rattle.memory.specs.Words.{words, put_word, big_words, put_big};
 ghost use Rattle.memory.specs.Keeps.{Stored};

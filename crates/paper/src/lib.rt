@@ -1,4 +1,6 @@
 // What the engine promises, as definitions: specs/ follows the document, proofs/ has their laws. The only code is the sizes that other code shares.
+#![tactic(auto)]
+
 pub mod layout;
 
 // The most pairs of a message, terms of a query and entries of a list.

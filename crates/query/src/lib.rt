@@ -1,4 +1,6 @@
 // The record of a registered query in the state memory: what is kept of it, and how a frame that reaches it updates that.
+#![tactic(auto)]
+
 ghost use Rattle.std.specs.Prelude.{◌≡◌, ℕ, ◌+◌, ◌*◌, ◌%◌, ◌<◌, ◌≤◌, not, ◌&&◌, length, get_or, take, eqb};
 ghost use Rattle.paper.specs.Frame.{numbers, most_terms, most_listed};
 ghost use Rattle.paper.specs.Impact.{top};
@@ -104,7 +106,7 @@ pub fn listed(state: &[u8], q: usize) -> usize
 }
 
 // An entry of a list, as a reading shows it.
-#[derive(Drop)]
+#[derive(Clone, Copy)]
 pub struct Line {
     pub serial: u32,
     pub score: u32,
@@ -271,7 +273,7 @@ fn settle(
 
 // What a frame moves: `departed` messages from slot `gone` on leave, and that of slot `cancelled` with this serial where there is one; the window is then
 // `count` slots from slot `first` on, and a message arrived in slot `newest` where that is one.
-#[derive(Drop)]
+#[derive(Clone, Copy)]
 pub struct Move {
     pub gone: usize,
     pub departed: usize,
@@ -284,7 +286,7 @@ pub struct Move {
 
 // What a query's terms have in the messages that come and go: whether the one that comes exceeds a threshold and its score, whether one that goes does,
 // and a bound on what any of these scores.
-#[derive(Drop)]
+#[derive(Clone, Copy)]
 pub struct Touch {
     pub comes: bool,
     pub goes: bool,

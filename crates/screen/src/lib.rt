@@ -1,4 +1,6 @@
 // One screen for all queries: its lines go out in rounds, one for each query that has an entry left.
+#![tactic(auto)]
+
 ghost use Rattle.std.specs.Prelude.{◌≡◌, [], ◌∷◌, map, ℕ, ◌*◌, ◌<◌, ◌≤◌, length, get_or, take};
 ghost use Rattle.paper.specs.Frame.{numbers};
 ghost use Rattle.paper.specs.Layout.{state_length};

@@ -2,6 +2,8 @@
 //
 // The list is the ranking of the window, which has no postings at hand to be read one by one. By its last score it is known where the rule ends: where
 // the next postings sum to less. Postings are read by falling height, so that place is found by halving, and what stands above it is counted.
+#![tactic(auto)]
+
 ghost use Rattle.std.specs.Prelude.{◌≡◌, ◌*◌, ◌<◌, ◌≤◌, cond, length, leb};
 ghost use Rattle.paper.specs.Frame.{most_terms, most_listed};
 ghost use Rattle.paper.specs.Layout.{state_length, slots};
@@ -22,7 +24,7 @@ const HEIGHT_LIMIT: u32 = 16 * impact::Impact::TOP * MOST_TERMS;
 // Columns of impacts for all terms, with a place for each message of the window.
 const COLUMNS: usize = paper::MOST_TERMS * layout::SLOTS;
 
-#[derive(Drop)]
+#[derive(Clone, Copy)]
 pub struct Outcome {
     pub list: Ranked,
     pub read: u32,

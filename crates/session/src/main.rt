@@ -1,4 +1,6 @@
 // The session: an engine fed from standard input, its replies and lists on standard output.
+#![tactic(auto)]
+
 mod text;
 
 ghost use Rattle.std.specs.Prelude.{◌+◌, ◌≤◌, length as Len};

@@ -1,4 +1,6 @@
 // The window: a ring of message slots in the state memory, and the cursor that says which of them fill a place.
+#![tactic(auto)]
+
 ghost use Rattle.std.specs.Prelude.{◌≡◌, ℕ, ◌+◌, ◌*◌, ◌-◌, ◌%◌, ◌^◌, ◌<◌, ◌≤◌, min, max, false, ◌||◌, length, get_or};
 ghost use Rattle.paper.specs.Frame.{level, urgency_of, term_width, count_width, most_pairs, most_terms};
 ghost use Rattle.paper.specs.Frame.Urgency.{vital};
@@ -204,7 +206,7 @@ pub fn look_at(state: &[u8], j: usize, places: &[u8], rows: &mut [u16], at: usiz
     }
 }
 
-#[derive(Drop)]
+#[derive(Clone, Copy)]
 pub struct Cursor {
     pub clock: u32,
     pub oldest: usize,

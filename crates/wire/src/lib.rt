@@ -1,4 +1,6 @@
 // Bit fields in bytes, most significant bit first.
+#![tactic(auto)]
+
 ghost use Rattle.std.specs.Prelude.{◌≡◌, ◌+◌, ◌*◌, ◌/◌, ◌%◌, ◌^◌, ◌≤◌, ◌<◌, min, length};
 ghost use Rattle.std.proofs.Math.Seq.{paste};
 ghost use Rattle.wire.specs.Bits.{bits, unpack};
@@ -25,7 +27,7 @@ pub fn take_bits(s: &[u8], at: usize, width: usize) -> u32
 }
 
 // A frame's bytes and the bit of the next field.
-#[derive(Drop)]
+#[derive(Clone, Copy)]
 pub struct BitReader<'a> {
     pub frame: &'a [u8],
     pub at: usize,
