@@ -1,0 +1,18 @@
+-- `update_all` meets its contract. Assumes nothing.
+use Rattle.memory.specs.Words.{words}
+use Rattle.window.proofs.TableLaws.{table_of}
+use Rattle.engine.proofs.ArrivingLaws.{table_leaving}
+use Rattle.engine.proofs.update_all.Goals as goal
+
+-- On the way back: the pass, the silence before it, and the tables' three parts.
+pub returns : goal.returns
+returns c =
+    let a = c.args in
+    record {
+      coming = _;
+      going = _;
+      tables = record { new = table_of c.raise_one.ensures.1; old = table_leaving (words a.state.now) a.moved c.raise_all.ensures.1 c.raise_one-2.ensures.1 };
+      c = _;
+      silenced = c.silence.ensures;
+      c = c.pass.ensures;
+    }

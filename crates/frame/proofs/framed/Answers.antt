@@ -1,0 +1,46 @@
+-- `framed` meets its contract. Assumes nothing.
+use native.Mathlib.Omega.{arith}
+use mathlib.Core.Path.{sym}
+use Rattle.paper.specs.Frame.{frame_of}
+use Rattle.frame.proofs.HeadLaws.{graded_kind, graded_answer, no_kind}
+use Rattle.frame.proofs.framed.Goals as goal
+
+pub returns-in-1 : goal.returns-in-1
+unfolding frame_of
+returns-in-1 c = λ ps known em. rw (c.in_default-1.keys1, em)
+
+pub returns-in-2 : goal.returns-in-2
+unfolding frame_of
+returns-in-2 c = λ ps known em. rw c.in_default-1.keys2
+
+pub returns-in-3 : goal.returns-in-3
+unfolding frame_of
+returns-in-3 c = λ ps known em. rw (c.in_default-1.keys3, em)
+
+pub returns-in-4 : goal.returns-in-4
+unfolding frame_of
+returns-in-4 c = λ ps known em. rw c.in_default-1.keys4
+
+pub returns-in-5 : goal.returns-in-5
+unfolding frame_of
+returns-in-5 c = λ ps known em. rw c.in_default-1.keys5
+
+pub returns-in-6 : goal.returns-in-6
+returns-in-6 c =
+    λ ps known em.
+    let a = c.args in
+    rw em (sym (graded_answer (graded_kind a.kind (omega arith) (omega arith)) a.values ps known))
+
+pub returns-in_default : goal.returns-in_default
+returns-in_default c =
+    λ ps known em.
+    let no = c.in_default-1.rest in
+    let k = c.args.kind in
+    rw ((no_kind k no.0.0.0.0.1 no.0.0.0.1 no.0.0.1 no.0.1 no.1 (λ h l. omega arith)).frame _ ps)
+
+pub returns-in_default-2 : goal.returns-in_default-2
+returns-in_default-2 c =
+    λ ps known em.
+    let no = c.in_default-1.rest in
+    let k = c.args.kind in
+    rw ((no_kind k no.0.0.0.0.1 no.0.0.0.1 no.0.0.1 no.0.1 no.1 (λ h l. omega arith)).frame _ ps)

@@ -1,0 +1,36 @@
+-- `put` meets its contract. Assumes nothing.
+use native.Mathlib.Omega.{arith}
+use mathlib.Core.Path.{◌≡◌, ap, sym, ◌∙◌}
+use mathlib.Core.List.{◌∷◌}
+use Prim.Native.Nat.{suc}
+use lib.ListN.{length, take}
+use lib.Seq.{length-take-le}
+use Rattle.wire.specs.Field.{total}
+use Rattle.paper.specs.Frame.{kind_width}
+use Rattle.frame.proofs.HeadLaws.{head_laid}
+use Rattle.frame.proofs.WriteLaws.{puts}
+use Rattle.frame.proofs.put.Goals as goal
+
+pub put_bits-requires : goal.put_bits-requires
+unfolding total
+put_bits-requires c = omega arith
+
+pub put_fields-requires : goal.put_fields-requires
+unfolding total
+put_fields-requires c = ((omega arith, omega arith), (omega arith, c.requires.0.2))
+
+pub returns : goal.returns
+returns c =
+    let same_places : let a = c.args in length (take a.fields a.widths) ≡ length (take a.fields a.values) =
+    let a = c.args in length-take-le a.fields a.widths (omega arith) ∙ sym (length-take-le a.fields a.values (omega arith)) in
+    let a = c.args in
+    let s = a.out.now in
+    let ws = take a.fields a.widths in
+    let vs = take a.fields a.values in
+    let t₂ = c.put_fields.new.0 in
+    let e : a.bits ≡ total (kind_width ∷ ws) = c.requires.0.0 in
+    rw (c.put_fill.ensures.0, e)
+    (puts (kind_width ∷ ws) (a.kind ∷ vs) a.terms.now a.amounts.now a.amount a.pairs (ap suc same_places) c.requires.1.0.1 c.requires.1.0.2
+    s t₂ c.put_pairs.new.0 c.put_fill.new.0 (rw e at c.requires.1.1.1) (omega arith) (λ i. (c.slice_known-1.given i).fits) (λ i. (c.slice_known-5-1.given i).fits)
+    (head_laid s c.put_bits.new.0 t₂ ws vs a.kind c.put_bits.ensures c.put_fields.ensures)
+    (rw e at c.put_pairs.ensures) (rw e at c.put_fill.ensures.1))

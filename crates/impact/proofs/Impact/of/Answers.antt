@@ -1,0 +1,78 @@
+-- `Impact::of` meets its contract. Assumes nothing.
+use Prim.Native.Nat.{◌*◌, ◌≤◌, max}
+use native.Mathlib.Nat.{le_antisymm, le_trans, mul-le-mul, min-le_right, le-div_iff_mul-le}
+use native.Mathlib.Omega.{arith}
+use mathlib.Core.Path.{◌≡◌, sym}
+use borrow.Author.Rules.{rules}
+use Rattle.paper.specs.Impact.{top, impact}
+use Rattle.paper.proofs.ImpactLaws.{impact_meets}
+use Rattle.impact.specs.Table.{reach}
+use Rattle.impact.proofs.Places.{unit_most, low_place, high_place, place_found, top_of_none}
+use Rattle.impact.proofs.Impact.of.Goals as goal
+
+pub overflow_mul-parts : goal.overflow_mul-parts
+overflow_mul-parts c =
+    let parts_most : c.args.count * c.unit.result ≤ 255 * reach =
+    let u = c.unit.result in
+    let h : u ≤ reach = unit_most (max c.args.squares 1) u (omega arith) (rw c.greater.ensures at c.unit.ensures.0) in
+    mul-le-mul {n₂ = 255} {m₂ = reach} (omega arith) h in
+    let h = parts_most in search rules
+
+pub overflow_add-parts : goal.overflow_add-parts
+overflow_add-parts c =
+    let parts_most : c.args.count * c.unit.result ≤ 255 * reach =
+    let u = c.unit.result in
+    let h : u ≤ reach = unit_most (max c.args.squares 1) u (omega arith) (rw c.greater.ensures at c.unit.ensures.0) in
+    mul-le-mul {n₂ = 255} {m₂ = reach} (omega arith) h in
+    let h = parts_most in search rules
+
+pub returns-then-squares-eq0 : goal.returns-then-squares-eq0
+returns-then-squares-eq0 c = sym (top_of_none c.args.count c.args.squares (omega arith))
+
+pub place-requires : goal.place-requires
+place-requires c =
+    let between : let s = c.args in
+    (c.place_of-low.result ≤ impact s.count s.squares) × (impact s.count s.squares ≤ c.place_of-high.result) =
+    let s = c.args in
+    let n : c.greater.result ≡ s.squares = let e = c.greater.ensures in omega arith in
+    let u = c.unit.ensures in
+    let l = low_place s.count s.squares c.unit.result (omega arith) (rw n at u.0) in
+    let h = high_place s.count s.squares c.unit.result (omega arith) (rw n at u.1) in
+    let d = c.place_of-low.ensures in
+    let e = c.place_of-high.ensures in
+    (omega arith, omega arith) in
+    let b = between in
+    let s = c.args in (
+      omega arith,
+      rw c.place_of-high.ensures (min-le_right _ top),
+      rw c.most_square-most.ensures (le_trans (mul-le-mul b.0 b.0) ((le-div_iff_mul-le (omega arith)).1 (impact_meets s.count s.squares))),
+    )
+
+pub returns-then-low-high : goal.returns-then-low-high
+returns-then-low-high c =
+    let between : let s = c.args in
+    (c.place_of-low.result ≤ impact s.count s.squares) × (impact s.count s.squares ≤ c.place_of-high.result) =
+    let s = c.args in
+    let n : c.greater.result ≡ s.squares = let e = c.greater.ensures in omega arith in
+    let u = c.unit.ensures in
+    let l = low_place s.count s.squares c.unit.result (omega arith) (rw n at u.0) in
+    let h = high_place s.count s.squares c.unit.result (omega arith) (rw n at u.1) in
+    let d = c.place_of-low.ensures in
+    let e = c.place_of-high.ensures in
+    (omega arith, omega arith) in
+    let r = place_requires c tt in
+    place_found _ _ _ _ _ (omega arith) c.most_square-most.ensures r.1 between.1 c.place.ensures
+
+pub returns : goal.returns
+returns c =
+    let between : let s = c.args in
+    (c.place_of-low.result ≤ impact s.count s.squares) × (impact s.count s.squares ≤ c.place_of-high.result) =
+    let s = c.args in
+    let n : c.greater.result ≡ s.squares = let e = c.greater.ensures in omega arith in
+    let u = c.unit.ensures in
+    let l = low_place s.count s.squares c.unit.result (omega arith) (rw n at u.0) in
+    let h = high_place s.count s.squares c.unit.result (omega arith) (rw n at u.1) in
+    let d = c.place_of-low.ensures in
+    let e = c.place_of-high.ensures in
+    (omega arith, omega arith) in
+    let b = between in le_antisymm b.0 (le_trans b.1 (omega arith))

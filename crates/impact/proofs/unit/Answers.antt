@@ -1,0 +1,76 @@
+-- `unit` meets its contract. Assumes nothing.
+use Prim.Native.Nat.{ℕ, ◌-◌, ◌*◌, ◌/◌, ◌^◌, ◌≤◌, ◌<◌}
+use native.Mathlib.Nat.{mul-le-mul, div-le_self, le-div_iff_mul-le, div-lt_iff_lt-mul}
+use native.Mathlib.Omega.{arith}
+use lib.Count.{count_leading_zeros, leading_le}
+use lib.Pow.{pow_pos, pow_mono}
+use borrow.Author.Rules.{rules}
+use Rattle.impact.specs.Table.{reach}
+use Rattle.impact.proofs.Newton.{stepped, step_falls}
+use Rattle.impact.proofs.unit.Goals as goal
+
+-- half the bits of n
+abbrev half : ℕ → ℕ
+half n = (32 - count_leading_zeros 32 n) / 2
+
+half_most : (n : ℕ) → half n ≤ 16
+half_most n = let z = leading_le 32 n in omega arith
+
+start_above : (n : ℕ) → 0 < reach / 2 ^ half n
+start_above n =
+    (le-div_iff_mul-le {k = 2 ^ half n} {x = 1} {y = reach} (pow_pos (half n))).1
+    (let p = pow_mono {i = half n} {j = 16} (half_most n) in omega arith)
+
+most_above : (n : ℕ) → 0 < n → n < 2 ^ 32 → 0 < reach * reach / n
+most_above n h l = (le-div_iff_mul-le {k = n} {x = 1} {y = reach * reach} h).1 (omega arith)
+
+pub overflow_sub-start : goal.overflow_sub-start
+overflow_sub-start c = leading_le 32 c.args.n
+
+pub overflow_cast-start : goal.overflow_cast-start
+overflow_cast-start c = let h = half_most c.args.n in search rules
+
+pub overflow_shr-start : goal.overflow_shr-start
+overflow_shr-start c = let h = half_most c.args.n in search rules
+
+pub closer-requires : goal.closer-requires
+closer-requires c = (div-le_self (reach * reach) c.args.n, start_above c.args.n, div-le_self reach (2 ^ half c.args.n))
+
+pub closer-requires-2 : goal.closer-requires-2
+closer-requires-2 c =
+    let above : 0 < reach * reach / c.args.n = most_above c.args.n c.requires c.ranges.n.fits in
+    (stepped above (first c κs) c.closer.ensures).0
+
+pub closer-requires-3 : goal.closer-requires-3
+closer-requires-3 c =
+    let above : 0 < reach * reach / c.args.n = most_above c.args.n c.requires c.ranges.n.fits in
+    (stepped above (second c κs) c.closer-2.ensures).0
+
+pub closer-guess-requires : goal.closer-guess-requires
+closer-guess-requires c =
+    let above : 0 < reach * reach / c.args.n = most_above c.args.n c.requires c.ranges.n.fits in
+    (stepped above (third c κs) c.closer-3.ensures).0
+
+pub loop-guess-init : goal.loop-guess-init
+loop-guess-init c =
+    let above : 0 < reach * reach / c.args.n = most_above c.args.n c.requires c.ranges.n.fits in
+    stepped above (fourth c tt) c.closer-guess.ensures
+
+pub overflow_mul-guess : goal.overflow_mul-guess
+overflow_mul-guess c =
+    let g = c.loop-guess.invariant.0.2 in
+    let h : c.loop-guess.guess * c.loop-guess.guess ≤ reach * reach = mul-le-mul g g in
+    omega arith
+
+pub loop-guess-smaller : goal.loop-guess-smaller
+loop-guess-smaller c = step_falls reach (omega arith) c.loop-guess.invariant.0.1 c.closer-guess-in-loop-guess.ensures
+
+pub loop-guess-preserved : goal.loop-guess-preserved
+loop-guess-preserved c =
+    let above : 0 < reach * reach / c.args.n = most_above c.args.n c.requires c.ranges.n.fits in
+    stepped above c.loop-guess.invariant.0 c.closer-guess-in-loop-guess.ensures
+
+pub returns : goal.returns
+returns c =
+    let p = c.requires in
+    ((le-div_iff_mul-le p).0 (omega arith), (div-lt_iff_lt-mul p).0 c.loop-guess.invariant.1)

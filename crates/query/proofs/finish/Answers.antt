@@ -1,0 +1,23 @@
+-- `finish` meets its contract. Assumes nothing.
+use mathlib.Core.Path.{◌≡◌}
+use lib.ListN.{length}
+use native.Mathlib.Omega.{arith}
+use borrow.Author.Rules.{rules, length_unmapped}
+use Rattle.query.proofs.SettleLaws.{Sixteen, sifted_exact, finished}
+use Rattle.query.proofs.finish.Goals as goal
+
+pub sifted_rows-kept-requires : goal.sifted_rows-kept-requires
+sifted_rows-kept-requires c = let p = c.requires in ((search rules, search rules, search rules, p.1.1.0.n_most), p.1.0)
+
+pub returns : goal.returns
+returns c =
+    let sixteen : Sixteen c.args.list =
+    record { most = omega arith; serials = search (rules, length_unmapped); keys = search (rules, length_unmapped) } in
+    let eight : length c.args.raised ≡ 8 = search (rules, length_unmapped) in
+    let range = c.requires.1.1.0 in
+    record {
+      keeps = c.store.ensures.keeps;
+      right = λ first count fs hs ms query ho picked looked long lifted ready.
+          finished range sixteen long eight lifted ready ho
+          (sifted_exact range sixteen long eight lifted ready ho picked looked c.sifted_rows-kept.ensures) c.store.ensures;
+    }

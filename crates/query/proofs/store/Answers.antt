@@ -1,0 +1,9 @@
+-- `store` meets its contract. Assumes nothing.
+use Rattle.query.proofs.StoreLaws.{stored_kept}
+use Rattle.query.proofs.store.Goals as goal
+
+pub returns : goal.returns
+returns c =
+    let a = c.args in
+    stored_kept a.q a.list a.state.now c.put.new.0 c.requires.0.0 c.requires.0.1 c.requires.1 c.put.ensures c.store8.ensures
+    c.store16.ensures c.store16-2.ensures c.store9.ensures

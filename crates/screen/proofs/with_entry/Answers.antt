@@ -1,0 +1,31 @@
+-- `with_entry` meets its contract. Assumes nothing.
+use Prim.Native.Nat.{◌-◌}
+use native.Mathlib.Omega.{arith}
+use mathlib.Core.Path.{refl}
+use mathlib.Core.Logic.{⊎_elim}
+use borrow.Author.Rules.{rules}
+use Rattle.screen.proofs.WaitLaws.{choosing_none, number_below, choosing_kept, choosing_passed, choosing_all}
+use Rattle.screen.proofs.with_entry.Goals as goal
+
+pub loop-j-init : goal.loop-j-init
+loop-j-init c = choosing_none (omega arith) (omega arith) (search rules)
+
+pub overflow_cast-q : goal.overflow_cast-q
+overflow_cast-q c = omega (arith, c.slice_known-in-loop-j-1.given c.loop-j.j)
+
+pub listed-requires : goal.listed-requires
+listed-requires c =
+    let pre = c.requires in
+    (pre.0, number_below pre.1 (omega arith) refl c.loop-j.invariant)
+
+pub loop-j-preserved : goal.loop-j-preserved
+loop-j-preserved c =
+    let known = c.requires.1 in
+    let e = c.listed.ensures.1 in
+    ⊎_elim
+    (λ w. rw (w.1, w.2) (choosing_kept known (omega arith) refl c.loop-j.invariant (omega arith)))
+    (λ w. rw (w.1, w.2) (choosing_passed known (omega arith) refl c.loop-j.invariant (omega arith)))
+    c.if-i-listed.branch
+
+pub returns : goal.returns
+returns c = choosing_all c.requires.1.most (omega arith) c.loop-j.invariant

@@ -1,0 +1,28 @@
+-- `count_over` meets its contract. Assumes nothing.
+use Prim.Native.Nat.{◌-◌}
+use native.Mathlib.Omega.{arith}
+use mathlib.Core.Path.{refl, ap, ◌∙◌}
+use mathlib.Core.Logic.{⊎_elim}
+use lib.Seq.{take_all}
+use Rattle.search.specs.Cut.{over}
+use Rattle.search.proofs.ColumnLaws.{over_hit, over_miss}
+use Rattle.search.proofs.count_over.Goals as goal
+
+pub loop-i-init : goal.loop-i-init
+unfolding over
+loop-i-init c = (omega arith, omega arith, refl)
+
+pub loop-i-preserved : goal.loop-i-preserved
+loop-i-preserved c =
+    let l = c.loop-i in
+    let a = c.args in
+    ⊎_elim
+    (λ w. (omega arith, omega arith, rw w.1 (over_hit a.column.now l.i a.cap (omega arith) l.invariant.2 (omega arith))))
+    (λ w. (omega arith, omega arith, rw w.1 (over_miss a.column.now l.i a.cap (omega arith) l.invariant.2 (omega arith))))
+    c.if-cap-column.branch
+
+pub returns : goal.returns
+returns c =
+    let l = c.loop-i in
+    let a = c.args in
+    (l.invariant.2 ∙ ap (over a.cap) (take_all l.i a.column.now (omega arith)), omega arith)

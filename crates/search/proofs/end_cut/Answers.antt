@@ -1,0 +1,32 @@
+-- `end_cut` meets its contract. Assumes nothing.
+use Prim.Native.Nat.{◌-◌}
+use native.Mathlib.Omega.{arith}
+use Rattle.search.specs.Post.{column}
+use Rattle.search.proofs.SumLaws.{sum_none, sum_rises}
+use Rattle.search.proofs.end_cut.Goals as goal
+
+pub loop-high-init : goal.loop-high-init
+loop-high-init c =
+    let a = c.args in (
+      omega arith,
+      omega arith,
+      λ h. omega (arith, sum_none a.query.n a.query.weights (column a.columns.now a.m)),
+      λ z h l. absurd (omega arith),
+    )
+
+pub loop-high-preserved-then-sum_at-score : goal.loop-high-preserved-then-sum_at-score
+loop-high-preserved-then-sum_at-score c =
+    let l = c.loop-high in
+    (omega arith, l.invariant.1, (λ h. omega (arith, c.sum_at.ensures)), l.invariant.3)
+
+pub loop-high-preserved : goal.loop-high-preserved
+loop-high-preserved c =
+    let l = c.loop-high in
+    let a = c.args in
+    let rises = sum_rises a.query.n a.query.weights (column a.columns.now a.m) in
+    (omega arith, omega (arith, l.invariant.1), l.invariant.2, λ z h m. omega (arith, c.sum_at.ensures, rises _ z h))
+
+pub returns : goal.returns
+returns c =
+    let l = c.loop-high in
+    record { inside = omega (arith, l.invariant.1); below = l.invariant.2; above = λ z h m. l.invariant.3 z (omega arith) m }

@@ -1,0 +1,47 @@
+-- `cell_in` meets its contract. Assumes nothing.
+use Prim.Native.Nat.{◌-◌, ◌<◌}
+use native.Mathlib.Omega.{arith}
+use mathlib.Core.Path.{◌≡◌, sym, ◌∙◌}
+use lib.ListN.{length, get_or}
+use Rattle.memory.specs.Words.{words}
+use Rattle.impact.proofs.CellLaws.{with_here, with_next, with_end}
+use Rattle.window.specs.Slot.{slot}
+use Rattle.window.proofs.SlotLaws.{size_most, slot_size, slot_cell}
+use Rattle.window.proofs.cell_in.Goals as goal
+
+pub get-cell-requires : goal.get-cell-requires
+get-cell-requires c =
+    let a = c.args in
+    omega (arith, c.size_in-size.ensures, size_most a.state.now a.j (omega arith) (omega arith))
+
+pub returns-then-cell-term : goal.returns-then-cell-term
+returns-then-cell-term c =
+    let read_is : let a = c.args in
+    (c.loop-i.i < length (slot (words a.state.now) a.j).cells) × (get_or (slot (words a.state.now) a.j).cells c.loop-i.i 0 ≡ c.get-cell.result) =
+    let a = c.args in
+    let s = slot_size a.state.now a.j (omega arith) (omega arith) in
+    let e = slot_cell a.state.now a.j (omega arith) (omega arith) c.loop-i.i (omega (arith, c.size_in-size.ensures)) in
+    (omega (arith, c.size_in-size.ensures), e ∙ sym c.get-cell.ensures) in
+    let r = read_is in
+    let a = c.args in
+    sym r.1 ∙ sym (with_here a.term c.loop-i.i (slot (words a.state.now) a.j).cells r.0 (omega (arith, r.1))) ∙ c.loop-i.invariant.1
+
+pub loop-i-preserved : goal.loop-i-preserved
+loop-i-preserved c =
+    let read_is : let a = c.args in
+    (c.loop-i.i < length (slot (words a.state.now) a.j).cells) × (get_or (slot (words a.state.now) a.j).cells c.loop-i.i 0 ≡ c.get-cell.result) =
+    let a = c.args in
+    let s = slot_size a.state.now a.j (omega arith) (omega arith) in
+    let e = slot_cell a.state.now a.j (omega arith) (omega arith) c.loop-i.i (omega (arith, c.size_in-size.ensures)) in
+    (omega (arith, c.size_in-size.ensures), e ∙ sym c.get-cell.ensures) in
+    let r = read_is in
+    let a = c.args in (
+      omega arith,
+      with_next a.term c.loop-i.i (slot (words a.state.now) a.j).cells r.0 (λ e. omega (arith, r.1)) ∙ c.loop-i.invariant.1,
+    )
+
+pub returns : goal.returns
+returns c =
+    let a = c.args in
+    let s = slot_size a.state.now a.j (omega arith) (omega arith) in
+    sym (with_end a.term c.loop-i.i (slot (words a.state.now) a.j).cells (omega (arith, c.size_in-size.ensures))) ∙ c.loop-i.invariant.1
