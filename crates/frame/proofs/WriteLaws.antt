@@ -222,14 +222,14 @@ module _ (x : Fields) (known : 0 < length (row_of x.kind).head) where
 
 module _ (x : Fields) (r : Row) (row : RowPost (row_of x.kind) r) where
   -- the grade among the values is the fields'
-  pub grade_as : (values : List ℕ) (b : Bool) → ValuesPost x values → b ≡ grades_known (row_of x.kind).head values
+  pub grade_as : (vs : List ℕ) (b : Bool) → ValuesPost x vs → b ≡ grades_known (row_of x.kind).head vs
       → b ≡ grades_known (row_of x.kind).head (map (value_of x) (row_of x.kind).head)
-  grade_as values b post e = e ∙ post.grades
+  grade_as vs b post e = e ∙ post.grades
 
   -- the values fit exactly if the fields are in range
-  pub fit_as : (values : List ℕ) (b : Bool) → ValuesPost x values → b ≡ fitting (take r.fields r.widths) (take r.fields values)
+  pub fit_as : (vs : List ℕ) (b : Bool) → ValuesPost x vs → b ≡ fitting (take r.fields r.widths) (take r.fields vs)
       → b ≡ head_within (row_of x.kind).head x
-  fit_as values b post e = e ∙ rw (row.widths, row.fields) post.fit
+  fit_as vs b post e = e ∙ rw (row.widths, row.fields) post.fit
 
   pub taken_as : (m : ℕ) → m ≡ cond (eqb r.amount 0) 0 x.pairs → m ≡ pairs_taken (row_of x.kind) x
   taken_as m e = e ∙ rw row.amount

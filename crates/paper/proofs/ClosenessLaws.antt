@@ -124,6 +124,7 @@ lacks_none xs ys alike ex ly ey t i =
 -- what is shared adds to the sum, and nothing else does
 shared_above : (ps qs : List Pair) → positive qs ≡ true → (t : ℕ) → In t (terms qs) → 0 < count_of t ps → 0 < shared_sum qs ps
 unfolding positive score_by
+shared_above ps [] e t i h = absurd i
 shared_above ps (q ∷ qs) e t i h =
     let z = and_true (ltb 0 q.amount) (positive qs) e in
     ⊎_elim (λ here. let m = mul-pos (ltb-true 0 q.amount z.0) (rw here at h) in omega arith)

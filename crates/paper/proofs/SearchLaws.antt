@@ -153,7 +153,7 @@ module _ (ms : List Message) where
 
 seen_again : (m : Message) (e : Entry) (es : List Entry) → has_serial m.serial (messages_of es) ≡ true → has_serial m.serial (messages_of (e ∷ es)) ≡ true
 unfolding has_serial
-seen_again m e es h = rw h (Bools.or_true (eqb e.of.serial m.serial))
+seen_again m e es h = rw h (Bools.or-true (eqb e.of.serial m.serial))
 
 module _ (ms : List Message) (es : List Entry) where
   -- of another term

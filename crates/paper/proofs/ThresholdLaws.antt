@@ -105,7 +105,7 @@ strictly_exceeds [] hs ps n i l h = absurd (omega arith)
 strictly_exceeds (q ∷ qs) [] ps n i l h = absurd (omega arith)
 strictly_exceeds (q ∷ qs) (x ∷ hs) ps n zero l h = rw (lt-ltb x (impact_in ps q.term) h)
 strictly_exceeds (q ∷ qs) (x ∷ hs) ps n (suc i) l h =
-    rw (strictly_exceeds qs hs ps (omega arith) i (omega arith) h) (Bools.or_true (ltb x (impact_in ps q.term)))
+    rw (strictly_exceeds qs hs ps (omega arith) i (omega arith) h) (Bools.or-true (ltb x (impact_in ps q.term)))
 
 -- a message exceeds thresholds exactly where it is strictly above one of them
 pub exceeds_exactly : (qs : List Pair) (hs : List ℕ) (ps : List Pair) → length hs ≡ length qs → (exceeds qs hs ps ≡ true) ↔ Exceeds qs hs ps
@@ -125,7 +125,7 @@ module _ (qs : List Pair) (hs : List ℕ) (n : length hs ≡ length qs) where
   unfolding reached
   one_reaches [] m i x = absurd i
   one_reaches (y ∷ ms) m (inl e) x = rw ((exceeds_exactly qs hs y.pairs n).1 (subst (λ (m : Message). Exceeds qs hs m.pairs) e x))
-  one_reaches (y ∷ ms) m (inr i) x = rw (one_reaches ms m i x) (Bools.or_true (exceeds qs hs y.pairs))
+  one_reaches (y ∷ ms) m (inr i) x = rw (one_reaches ms m i x) (Bools.or-true (exceeds qs hs y.pairs))
 
   -- a query is reached exactly where one of the messages is strictly above one of its thresholds
   pub reached_exactly : (ms : List Message) → (reached qs hs ms ≡ true) ↔ ((m : Message) × In m ms × Exceeds qs hs m.pairs)
@@ -263,6 +263,7 @@ settled_same q ms ms' kept s c = settled_again q ms ms' kept kept.candidates s (
 
 unreached : (qs : List Pair) (hs : List ℕ) (ms : List Message) → reached qs hs ms ≡ false → (m : Message) → In m ms → exceeds qs hs m.pairs ≡ false
 unfolding reached
+unreached qs hs [] e m i = absurd i
 unreached qs hs (x ∷ ms) e m i =
     let d = or_false (exceeds qs hs x.pairs) (reached qs hs ms) e in
     ⊎_elim (λ p. rw p d.0) (λ p. unreached qs hs ms d.1 m p) i

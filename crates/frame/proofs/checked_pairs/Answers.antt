@@ -18,9 +18,6 @@ take_pairs-p-requires c =
     let e : length a.bytes.now ≡ bytes_for (a.head + a.m * (10 + a.width)) = fit_length a.bytes.now (a.head + a.m * (10 + a.width)) (omega arith) in
     omega arith
 
-pub grade_first-requires : goal.grade_first-requires
-grade_first-requires c = tt
-
 pub returns : goal.returns
 returns c =
     let a = c.args in

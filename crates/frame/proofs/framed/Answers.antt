@@ -7,23 +7,23 @@ use Rattle.frame.proofs.framed.Goals as goal
 
 pub returns-in-1 : goal.returns-in-1
 unfolding frame_of
-returns-in-1 c = λ ps known em. rw (c.in_default-1.keys1, em)
+returns-in-1 c = λ ps known em. rw (c.in-1.is, em)
 
 pub returns-in-2 : goal.returns-in-2
 unfolding frame_of
-returns-in-2 c = λ ps known em. rw c.in_default-1.keys2
+returns-in-2 c = λ ps known em. rw c.in-2.is
 
 pub returns-in-3 : goal.returns-in-3
 unfolding frame_of
-returns-in-3 c = λ ps known em. rw (c.in_default-1.keys3, em)
+returns-in-3 c = λ ps known em. rw (c.in-3.is, em)
 
 pub returns-in-4 : goal.returns-in-4
 unfolding frame_of
-returns-in-4 c = λ ps known em. rw c.in_default-1.keys4
+returns-in-4 c = λ ps known em. rw c.in-4.is
 
 pub returns-in-5 : goal.returns-in-5
 unfolding frame_of
-returns-in-5 c = λ ps known em. rw c.in_default-1.keys5
+returns-in-5 c = λ ps known em. rw c.in-5.is
 
 pub returns-in-6 : goal.returns-in-6
 returns-in-6 c =
@@ -34,13 +34,9 @@ returns-in-6 c =
 pub returns-in_default : goal.returns-in_default
 returns-in_default c =
     λ ps known em.
-    let no = c.in_default-1.rest in
-    let k = c.args.kind in
-    rw ((no_kind k no.0.0.0.0.1 no.0.0.0.1 no.0.0.1 no.0.1 no.1 (λ h l. omega arith)).frame _ ps)
+    rw ((no_kind c.args.kind (omega arith) (omega arith) (omega arith) (omega arith) (omega arith) (λ h l. omega arith)).frame _ ps)
 
 pub returns-in_default-2 : goal.returns-in_default-2
 returns-in_default-2 c =
     λ ps known em.
-    let no = c.in_default-1.rest in
-    let k = c.args.kind in
-    rw ((no_kind k no.0.0.0.0.1 no.0.0.0.1 no.0.0.1 no.0.1 no.1 (λ h l. omega arith)).frame _ ps)
+    rw ((no_kind c.args.kind (omega arith) (omega arith) (omega arith) (omega arith) (omega arith) (λ h l. omega arith)).frame _ ps)

@@ -41,12 +41,6 @@ overflow_cast-term c = omega (arith, c.shared_slice_known-in-loop-i-1.given c.lo
 pub overflow_cast-amounts : goal.overflow_cast-amounts
 overflow_cast-amounts c = omega (arith, c.shared_slice_known-in-loop-i-2-1.given c.loop-i.i)
 
-pub sound_pair-sound-requires : goal.sound_pair-sound-requires
-sound_pair-sound-requires c = tt
-
-pub judge-number-requires : goal.judge-number-requires
-judge-number-requires c = tt
-
 pub overflow_add-floor : goal.overflow_add-floor
 overflow_add-floor c = omega (arith, c.shared_slice_known-in-loop-i-1.given c.loop-i.i)
 

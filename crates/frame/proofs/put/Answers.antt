@@ -17,7 +17,7 @@ put_bits-requires c = omega arith
 
 pub put_fields-requires : goal.put_fields-requires
 unfolding total
-put_fields-requires c = ((omega arith, omega arith), (omega arith, c.requires.0.2))
+put_fields-requires c = record { widths_bound = (omega arith, omega arith); fields_bound = (omega arith, c.requires.bits_value.2) }
 
 pub returns : goal.returns
 returns c =
@@ -27,10 +27,10 @@ returns c =
     let s = a.out.now in
     let ws = take a.fields a.widths in
     let vs = take a.fields a.values in
-    let t₂ = c.put_fields.new.0 in
-    let e : a.bits ≡ total (kind_width ∷ ws) = c.requires.0.0 in
+    let t₂ = c.put_fields.new.out in
+    let e : a.bits ≡ total (kind_width ∷ ws) = c.requires.bits_value.0 in
     rw (c.put_fill.ensures.0, e)
-    (puts (kind_width ∷ ws) (a.kind ∷ vs) a.terms.now a.amounts.now a.amount a.pairs (ap suc same_places) c.requires.1.0.1 c.requires.1.0.2
-    s t₂ c.put_pairs.new.0 c.put_fill.new.0 (rw e at c.requires.1.1.1) (omega arith) (λ i. (c.slice_known-1.given i).fits) (λ i. (c.slice_known-5-1.given i).fits)
-    (head_laid s c.put_bits.new.0 t₂ ws vs a.kind c.put_bits.ensures c.put_fields.ensures)
+    (puts (kind_width ∷ ws) (a.kind ∷ vs) a.terms.now a.amounts.now a.amount a.pairs (ap suc same_places) c.requires.amount_bound.1 c.requires.amount_bound.2
+    s t₂ c.put_pairs.new.out c.put_fill.new.out (rw e at c.requires.amount_bound_2.1) (omega arith) (λ i. (c.slice_known-1.given i).fits) (λ i. (c.slice_known-5-1.given i).fits)
+    (head_laid s c.put_bits.new.s t₂ ws vs a.kind c.put_bits.ensures c.put_fields.ensures)
     (rw e at c.put_pairs.ensures) (rw e at c.put_fill.ensures.1))

@@ -19,7 +19,7 @@ put_bits-requires c =
     let a = c.args in
     let i = c.loop-i.i in
     let t = total_turn a.widths a.fields i (omega arith) (omega arith) in
-    (narrow_at a.widths a.fields i c.requires.1.1 (omega arith), omega arith, omega arith) in
+    (narrow_at a.widths a.fields i c.requires.fields_bound.1 (omega arith), omega arith, omega arith) in
     let h = fits in omega arith
 
 pub overflow_add-next : goal.overflow_add-next
@@ -29,7 +29,7 @@ overflow_add-next c =
     let a = c.args in
     let i = c.loop-i.i in
     let t = total_turn a.widths a.fields i (omega arith) (omega arith) in
-    (narrow_at a.widths a.fields i c.requires.1.1 (omega arith), omega arith, omega arith) in
+    (narrow_at a.widths a.fields i c.requires.fields_bound.1 (omega arith), omega arith, omega arith) in
     let h = fits in omega arith
 
 pub loop-i-preserved : goal.loop-i-preserved

@@ -69,7 +69,7 @@ loop-i-preserved c =
       omega arith,
       rw (l.invariant.1, add-one l.i, suc-mul l.i (10 + a.width)) (omega arith),
       omega arith,
-      put_turn a.out.now l.out c.put_bits.new.0 _ a.terms.now a.amounts.now a.at a.width l.i l.next
+      put_turn a.out.now l.out c.put_bits.new.s _ a.terms.now a.amounts.now a.at a.width l.i l.next
           (omega arith) (omega arith) (omega arith) l.invariant.1 l.invariant.3 c.put_bits.ensures c.put_bits-in-loop-i.ensures,
     )
 

@@ -5,9 +5,6 @@ use borrow.Author.Tests.{lt-ltb, le-ltb}
 use Rattle.paper.specs.Frame.{shape}
 use Rattle.frame.proofs.read.Goals as goal
 
-pub refusal-requires : goal.refusal-requires
-refusal-requires c = tt
-
 pub returns-then-bytes-lt5 : goal.returns-then-bytes-lt5
 unfolding shape
 returns-then-bytes-lt5 c = rw (lt-ltb (length c.args.bytes.now) 5 (omega arith)) c.refusal.ensures

@@ -12,12 +12,6 @@ use Rattle.frame.proofs.ReadLaws.{unknown, by_row, grade_known_lem, read_refused
 use Rattle.frame.proofs.HeadLaws.{small, get_d_padded, frame_padded, grades_padded, pairs_read_lem, pairs_light}
 use Rattle.frame.proofs.read_kind.Goals as goal
 
-pub row_of-row-requires : goal.row_of-row-requires
-row_of-row-requires c = tt
-
-pub refusal-requires : goal.refusal-requires
-refusal-requires c = tt
-
 pub returns-then-row-eq0 : goal.returns-then-row-eq0
 returns-then-row-eq0 c =
     let a = c.args in
@@ -28,9 +22,6 @@ overflow_add-row c =
     let a = c.args in
     let b = small a.bytes.now a.kind in
     omega arith
-
-pub refusal-requires-then-bytes-row : goal.refusal-requires-then-bytes-row
-refusal-requires-then-bytes-row c = tt
 
 pub returns-then-bytes-row : goal.returns-then-bytes-row
 returns-then-bytes-row c =
@@ -46,16 +37,13 @@ unfolding total
 take_fields-values-requires c =
     let a = c.args in
     let b = small a.bytes.now a.kind in
-    rw c.row_of-row.ensures.widths ((omega arith, omega arith), (omega arith, b.narrow))
+    rw c.row_of-row.ensures.widths (record { widths_bound = (omega arith, omega arith); fields_bound = (omega arith, b.narrow) })
 
 pub pairs_by-m-requires : goal.pairs_by-m-requires
 pairs_by-m-requires c =
     let a = c.args in
     let b = small a.bytes.now a.kind in
     omega arith
-
-pub graded-known-requires : goal.graded-known-requires
-graded-known-requires c = tt
 
 pub checked_pairs-p-requires : goal.checked_pairs-p-requires
 checked_pairs-p-requires c =
@@ -74,9 +62,6 @@ checked_pairs-p-requires c =
     let w : c.row_of-row.result.amount ≤ 8 = rw c.row_of-row.ensures.amount b.light in
     let h = pairs_light c.pairs_by-m.result c.row_of-row.result.amount m w in
     omega arith
-
-pub refusal-requires-then-p-ne0 : goal.refusal-requires-then-p-ne0
-refusal-requires-then-p-ne0 c = tt
 
 pub returns-then-p-ne0 : goal.returns-then-p-ne0
 returns-then-p-ne0 c =

@@ -72,9 +72,6 @@ overflow_cast-amounts c =
     rw amount_is (lt_of_lt_of_le (field_lt a.bytes.now (c.loop-i.next + 10) a.width) few) in
     let h = amount_small in omega arith
 
-pub judge-number-requires : goal.judge-number-requires
-judge-number-requires c = tt
-
 pub overflow_add-least : goal.overflow_add-least
 overflow_add-least c =
     let fits : let a = c.args in

@@ -11,24 +11,12 @@ use Rattle.frame.specs.Write.{fitting}
 use Rattle.frame.proofs.HeadLaws.{less_fits, less_within, graded_kind, graded_values, no_kind}
 use Rattle.frame.proofs.values_of.Goals as goal
 
-pub less_one-requires : goal.less_one-requires
-less_one-requires c = tt
-
-pub less_one-requires-in-3 : goal.less_one-requires-in-3
-less_one-requires-in-3 c = tt
-
-pub less_one-requires-in-3-2 : goal.less_one-requires-in-3-2
-less_one-requires-in-3-2 c = tt
-
-pub less_one-requires-in-6 : goal.less_one-requires-in-6
-less_one-requires-in-6 c = tt
-
 pub returns-in-1 : goal.returns-in-1
 unfolding row_of grades_known fitting head_within
 returns-in-1 c =
     λ ts us.
     let a = c.args in
-    rw (c.in_default-1.keys1, c.less_one.ensures) (record {
+    rw (c.in-1.is, c.less_one.ensures) (record {
       grades = refl;
       fit = rw (less_fits a.pairs 4 (lit≤ tt));
       are = λ e. rw (less_within a.pairs 4 (lit≤ tt) (search (and_left, and_right)));
@@ -36,14 +24,14 @@ returns-in-1 c =
 
 pub returns-in-2 : goal.returns-in-2
 unfolding row_of grades_known fitting head_within
-returns-in-2 c = λ ts us. rw c.in_default-1.keys2 (record { grades = refl; fit = refl; are = λ _. refl })
+returns-in-2 c = λ ts us. rw c.in-2.is (record { grades = refl; fit = refl; are = λ _. refl })
 
 pub returns-in-3 : goal.returns-in-3
 unfolding row_of grades_known fitting head_within
 returns-in-3 c =
     λ ts us.
     let a = c.args in
-    rw (c.in_default-1.keys3, c.less_one-in-3.ensures, c.less_one-in-3-2.ensures) (record {
+    rw (c.in-3.is, c.less_one-in-3.ensures, c.less_one-in-3-2.ensures) (record {
       grades = refl;
       fit = rw (less_fits a.k 4 (lit≤ tt), less_fits a.pairs 3 (lit≤ tt));
       are = λ e.
@@ -54,11 +42,11 @@ returns-in-3 c =
 
 pub returns-in-4 : goal.returns-in-4
 unfolding row_of grades_known fitting head_within
-returns-in-4 c = λ ts us. rw c.in_default-1.keys4 (record { grades = refl; fit = refl; are = λ _. refl })
+returns-in-4 c = λ ts us. rw c.in-4.is (record { grades = refl; fit = refl; are = λ _. refl })
 
 pub returns-in-5 : goal.returns-in-5
 unfolding row_of grades_known fitting head_within
-returns-in-5 c = λ ts us. rw c.in_default-1.keys5 (record { grades = refl; fit = refl; are = λ _. refl })
+returns-in-5 c = λ ts us. rw c.in-5.is (record { grades = refl; fit = refl; are = λ _. refl })
 
 pub returns-in-6 : goal.returns-in-6
 returns-in-6 c = λ ts us. graded_values _ _ (graded_kind c.args.kind (omega arith) (omega arith)) (rw c.less_one-in-6.ensures)
@@ -67,16 +55,12 @@ pub returns-in_default : goal.returns-in_default
 unfolding grades_known fitting head_within
 returns-in_default c =
     λ ts us.
-    let no = c.in_default-1.rest in
-    let k = c.args.kind in
-    let e = (no_kind k no.0.0.0.0.1 no.0.0.0.1 no.0.0.1 no.0.1 no.1 (λ h l. omega arith)).row in
+    let e = (no_kind c.args.kind (omega arith) (omega arith) (omega arith) (omega arith) (omega arith) (λ h l. omega arith)).row in
     record { grades = rw e; fit = rw e; are = λ _. rw e }
 
 pub returns-in_default-2 : goal.returns-in_default-2
 unfolding grades_known fitting head_within
 returns-in_default-2 c =
     λ ts us.
-    let no = c.in_default-1.rest in
-    let k = c.args.kind in
-    let e = (no_kind k no.0.0.0.0.1 no.0.0.0.1 no.0.0.1 no.0.1 no.1 (λ h l. omega arith)).row in
+    let e = (no_kind c.args.kind (omega arith) (omega arith) (omega arith) (omega arith) (omega arith) (λ h l. omega arith)).row in
     record { grades = rw e; fit = rw e; are = λ _. rw e }

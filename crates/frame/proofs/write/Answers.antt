@@ -15,26 +15,11 @@ use Rattle.frame.proofs.HeadLaws.{small, pairs_light}
 use Rattle.frame.proofs.WriteLaws.{refused_post, short_post, done_post, unknown_fields, grade_refused, head_refused, pairs_refused, frame_made, frame_accepted, frame_size, verdict_within, grade_as, fit_as, taken_as, verdict_as, size_as, put_as}
 use Rattle.frame.proofs.write.Goals as goal
 
-pub row_of-row-requires : goal.row_of-row-requires
-row_of-row-requires c = tt
-
-pub unwritten-requires : goal.unwritten-requires
-unwritten-requires c = tt
-
 pub returns-then-row-eq0 : goal.returns-then-row-eq0
 returns-then-row-eq0 c =
     let handed : Fields =
     let a = c.args in fields a.kind a.time a.serial a.urgency a.number a.k a.pairs a.terms.now a.amounts.now in
     rw (unknown_fields handed (omega arith)) (refused_post _ 2 c.unwritten.result (omega arith) (λ k. omega arith) (omega arith))
-
-pub values_of-values-requires : goal.values_of-values-requires
-values_of-values-requires c = tt
-
-pub graded-requires : goal.graded-requires
-graded-requires c = tt
-
-pub unwritten-requires-then-not-graded : goal.unwritten-requires-then-not-graded
-unwritten-requires-then-not-graded c = tt
 
 pub returns-then-not-graded : goal.returns-then-not-graded
 returns-then-not-graded c =
@@ -48,16 +33,13 @@ returns-then-not-graded c =
     let x = given in
     grade_as x c.row_of-row.result c.row_of-row.ensures c.values_of-values.result c.graded.result
     (c.values_of-values.ensures x.terms x.amounts) c.graded.ensures in
-    rw (grade_refused given has_row (sym grade_is ∙ not-true _ c.if-not-graded.true))
+    rw (grade_refused given has_row (sym grade_is ∙ c.if-not-graded.true))
     (refused_post _ 14 c.unwritten-then-not-graded.result (omega arith) (λ k. omega arith) (omega arith))
 
 pub fit-requires : goal.fit-requires
 fit-requires c =
     let b = small c.args.terms.now c.args.kind in
     rw c.row_of-row.ensures.widths (omega arith, b.narrow)
-
-pub unwritten-requires-then-not-fit : goal.unwritten-requires-then-not-fit
-unwritten-requires-then-not-fit c = tt
 
 pub returns-then-not-fit : goal.returns-then-not-fit
 returns-then-not-fit c =
@@ -72,15 +54,12 @@ returns-then-not-fit c =
     grade_as x c.row_of-row.result c.row_of-row.ensures c.values_of-values.result c.graded.result
     (c.values_of-values.ensures x.terms x.amounts) c.graded.ensures in
     let graded : let x = given in grades_known (row_of x.kind).head (map (value_of x) (row_of x.kind).head) ≡ true =
-    sym grade_is ∙ not-false _ c.if-not-graded.false in
+    sym grade_is ∙ c.if-not-graded.false in
     let in_range : let x = given in c.fit.result ≡ head_within (row_of x.kind).head x =
     let x = given in
     fit_as x c.row_of-row.result c.row_of-row.ensures c.values_of-values.result c.fit.result (c.values_of-values.ensures x.terms x.amounts) c.fit.ensures in
-    rw (head_refused given has_row graded (sym in_range ∙ not-true _ c.if-not-fit.true))
+    rw (head_refused given has_row graded (sym in_range ∙ c.if-not-fit.true))
     (refused_post _ 5 c.unwritten-then-not-fit.result (omega arith) (λ k. omega arith) (omega arith))
-
-pub pairs_taken-m-requires : goal.pairs_taken-m-requires
-pairs_taken-m-requires c = tt
 
 pub judge_pairs-judged-requires : goal.judge_pairs-judged-requires
 judge_pairs-judged-requires c =
@@ -91,7 +70,7 @@ judge_pairs-judged-requires c =
     let x = given in
     fit_as x c.row_of-row.result c.row_of-row.ensures c.values_of-values.result c.fit.result (c.values_of-values.ensures x.terms x.amounts) c.fit.ensures in
     let all_in_range : let x = given in head_within (row_of x.kind).head x ≡ true =
-    sym in_range ∙ not-false _ c.if-not-fit.false in
+    sym in_range ∙ c.if-not-fit.false in
     let taken : let x = given in c.pairs_taken-m.result ≡ pairs_taken (row_of x.kind) x =
     taken_as handed c.row_of-row.result c.row_of-row.ensures c.pairs_taken-m.result c.pairs_taken-m.ensures in
     let little : let r = c.row_of-row.result in let m = c.pairs_taken-m.result in
@@ -102,9 +81,6 @@ judge_pairs-judged-requires c =
     let w : c.row_of-row.result.amount ≤ 8 = omega (arith, b.light, c.row_of-row.ensures.amount) in
     (m, w, omega (arith, b.short, c.row_of-row.ensures.bits), pairs_light _ _ m w) in
     let h = little in omega arith
-
-pub unwritten-requires-then-judged-ne0 : goal.unwritten-requires-then-judged-ne0
-unwritten-requires-then-judged-ne0 c = tt
 
 pub returns-then-judged-ne0 : goal.returns-then-judged-ne0
 returns-then-judged-ne0 c =
@@ -119,12 +95,12 @@ returns-then-judged-ne0 c =
     grade_as x c.row_of-row.result c.row_of-row.ensures c.values_of-values.result c.graded.result
     (c.values_of-values.ensures x.terms x.amounts) c.graded.ensures in
     let graded : let x = given in grades_known (row_of x.kind).head (map (value_of x) (row_of x.kind).head) ≡ true =
-    sym grade_is ∙ not-false _ c.if-not-graded.false in
+    sym grade_is ∙ c.if-not-graded.false in
     let in_range : let x = given in c.fit.result ≡ head_within (row_of x.kind).head x =
     let x = given in
     fit_as x c.row_of-row.result c.row_of-row.ensures c.values_of-values.result c.fit.result (c.values_of-values.ensures x.terms x.amounts) c.fit.ensures in
     let all_in_range : let x = given in head_within (row_of x.kind).head x ≡ true =
-    sym in_range ∙ not-false _ c.if-not-fit.false in
+    sym in_range ∙ c.if-not-fit.false in
     let taken : let x = given in c.pairs_taken-m.result ≡ pairs_taken (row_of x.kind) x =
     taken_as handed c.row_of-row.result c.row_of-row.ensures c.pairs_taken-m.result c.pairs_taken-m.ensures in
     let judged_as : let x = given in
@@ -144,7 +120,7 @@ overflow_add-row c =
     let x = given in
     fit_as x c.row_of-row.result c.row_of-row.ensures c.values_of-values.result c.fit.result (c.values_of-values.ensures x.terms x.amounts) c.fit.ensures in
     let all_in_range : let x = given in head_within (row_of x.kind).head x ≡ true =
-    sym in_range ∙ not-false _ c.if-not-fit.false in
+    sym in_range ∙ c.if-not-fit.false in
     let taken : let x = given in c.pairs_taken-m.result ≡ pairs_taken (row_of x.kind) x =
     taken_as handed c.row_of-row.result c.row_of-row.ensures c.pairs_taken-m.result c.pairs_taken-m.ensures in
     let little : let r = c.row_of-row.result in let m = c.pairs_taken-m.result in
@@ -165,7 +141,7 @@ overflow_mul-m c =
     let x = given in
     fit_as x c.row_of-row.result c.row_of-row.ensures c.values_of-values.result c.fit.result (c.values_of-values.ensures x.terms x.amounts) c.fit.ensures in
     let all_in_range : let x = given in head_within (row_of x.kind).head x ≡ true =
-    sym in_range ∙ not-false _ c.if-not-fit.false in
+    sym in_range ∙ c.if-not-fit.false in
     let taken : let x = given in c.pairs_taken-m.result ≡ pairs_taken (row_of x.kind) x =
     taken_as handed c.row_of-row.result c.row_of-row.ensures c.pairs_taken-m.result c.pairs_taken-m.ensures in
     let little : let r = c.row_of-row.result in let m = c.pairs_taken-m.result in
@@ -186,7 +162,7 @@ overflow_add-row-2 c =
     let x = given in
     fit_as x c.row_of-row.result c.row_of-row.ensures c.values_of-values.result c.fit.result (c.values_of-values.ensures x.terms x.amounts) c.fit.ensures in
     let all_in_range : let x = given in head_within (row_of x.kind).head x ≡ true =
-    sym in_range ∙ not-false _ c.if-not-fit.false in
+    sym in_range ∙ c.if-not-fit.false in
     let taken : let x = given in c.pairs_taken-m.result ≡ pairs_taken (row_of x.kind) x =
     taken_as handed c.row_of-row.result c.row_of-row.ensures c.pairs_taken-m.result c.pairs_taken-m.ensures in
     let little : let r = c.row_of-row.result in let m = c.pairs_taken-m.result in
@@ -207,7 +183,7 @@ overflow_add-row-3 c =
     let x = given in
     fit_as x c.row_of-row.result c.row_of-row.ensures c.values_of-values.result c.fit.result (c.values_of-values.ensures x.terms x.amounts) c.fit.ensures in
     let all_in_range : let x = given in head_within (row_of x.kind).head x ≡ true =
-    sym in_range ∙ not-false _ c.if-not-fit.false in
+    sym in_range ∙ c.if-not-fit.false in
     let taken : let x = given in c.pairs_taken-m.result ≡ pairs_taken (row_of x.kind) x =
     taken_as handed c.row_of-row.result c.row_of-row.ensures c.pairs_taken-m.result c.pairs_taken-m.ensures in
     let little : let r = c.row_of-row.result in let m = c.pairs_taken-m.result in
@@ -218,9 +194,6 @@ overflow_add-row-3 c =
     let w : c.row_of-row.result.amount ≤ 8 = omega (arith, b.light, c.row_of-row.ensures.amount) in
     (m, w, omega (arith, b.short, c.row_of-row.ensures.bits), pairs_light _ _ m w) in
     let h = little in omega arith
-
-pub unwritten-requires-then-out-row : goal.unwritten-requires-then-out-row
-unwritten-requires-then-out-row c = tt
 
 pub returns-then-out-row : goal.returns-then-out-row
 returns-then-out-row c =
@@ -235,12 +208,12 @@ returns-then-out-row c =
     grade_as x c.row_of-row.result c.row_of-row.ensures c.values_of-values.result c.graded.result
     (c.values_of-values.ensures x.terms x.amounts) c.graded.ensures in
     let graded : let x = given in grades_known (row_of x.kind).head (map (value_of x) (row_of x.kind).head) ≡ true =
-    sym grade_is ∙ not-false _ c.if-not-graded.false in
+    sym grade_is ∙ c.if-not-graded.false in
     let in_range : let x = given in c.fit.result ≡ head_within (row_of x.kind).head x =
     let x = given in
     fit_as x c.row_of-row.result c.row_of-row.ensures c.values_of-values.result c.fit.result (c.values_of-values.ensures x.terms x.amounts) c.fit.ensures in
     let all_in_range : let x = given in head_within (row_of x.kind).head x ≡ true =
-    sym in_range ∙ not-false _ c.if-not-fit.false in
+    sym in_range ∙ c.if-not-fit.false in
     let taken : let x = given in c.pairs_taken-m.result ≡ pairs_taken (row_of x.kind) x =
     taken_as handed c.row_of-row.result c.row_of-row.ensures c.pairs_taken-m.result c.pairs_taken-m.ensures in
     let judged_as : let x = given in
@@ -270,7 +243,7 @@ put-length-requires c =
     let x = given in
     fit_as x c.row_of-row.result c.row_of-row.ensures c.values_of-values.result c.fit.result (c.values_of-values.ensures x.terms x.amounts) c.fit.ensures in
     let all_in_range : let x = given in head_within (row_of x.kind).head x ≡ true =
-    sym in_range ∙ not-false _ c.if-not-fit.false in
+    sym in_range ∙ c.if-not-fit.false in
     let taken : let x = given in c.pairs_taken-m.result ≡ pairs_taken (row_of x.kind) x =
     taken_as handed c.row_of-row.result c.row_of-row.ensures c.pairs_taken-m.result c.pairs_taken-m.ensures in
     let little : let r = c.row_of-row.result in let m = c.pairs_taken-m.result in
@@ -291,10 +264,12 @@ put-length-requires c =
     let b = small x.terms x.kind in
     let h = little in
     let t = taken in
-    let l = verdict_within _ _ x.terms x.amounts none_judged in (
-      (rw c.row_of-row.ensures.widths c.row_of-row.ensures.bits, omega arith, rw c.row_of-row.ensures.widths b.narrow),
-      ((omega arith, omega arith, omega arith), (omega arith, omega arith)),
-    )
+    let l = verdict_within _ _ x.terms x.amounts none_judged in
+    record {
+      bits_value = (rw c.row_of-row.ensures.widths c.row_of-row.ensures.bits, omega arith, rw c.row_of-row.ensures.widths b.narrow);
+      amount_bound = (omega arith, omega arith, omega arith);
+      amount_bound_2 = (omega arith, omega arith);
+    }
 
 pub returns : goal.returns
 returns c =
@@ -309,12 +284,12 @@ returns c =
     grade_as x c.row_of-row.result c.row_of-row.ensures c.values_of-values.result c.graded.result
     (c.values_of-values.ensures x.terms x.amounts) c.graded.ensures in
     let graded : let x = given in grades_known (row_of x.kind).head (map (value_of x) (row_of x.kind).head) ≡ true =
-    sym grade_is ∙ not-false _ c.if-not-graded.false in
+    sym grade_is ∙ c.if-not-graded.false in
     let in_range : let x = given in c.fit.result ≡ head_within (row_of x.kind).head x =
     let x = given in
     fit_as x c.row_of-row.result c.row_of-row.ensures c.values_of-values.result c.fit.result (c.values_of-values.ensures x.terms x.amounts) c.fit.ensures in
     let all_in_range : let x = given in head_within (row_of x.kind).head x ≡ true =
-    sym in_range ∙ not-false _ c.if-not-fit.false in
+    sym in_range ∙ c.if-not-fit.false in
     let taken : let x = given in c.pairs_taken-m.result ≡ pairs_taken (row_of x.kind) x =
     taken_as handed c.row_of-row.result c.row_of-row.ensures c.pairs_taken-m.result c.pairs_taken-m.ensures in
     let judged_as : let x = given in
@@ -332,11 +307,11 @@ returns c =
     let x = handed in
     size_as x c.row_of-row.result c.row_of-row.ensures c.pairs_taken-m.result taken _
     (frame_size x has_row graded all_in_range none_judged) in
-    let frame_put : PutPost (encode framed.frame) c.args.out.now c.put-length.new.0 c.put-length.result =
+    let frame_put : PutPost (encode framed.frame) c.args.out.now c.put-length.new.out c.put-length.result =
     let x = handed in
     let values = c.values_of-values in
     put_as x c.row_of-row.result c.row_of-row.ensures c.pairs_taken-m.result taken values.result _ _ _ _
     ((values.ensures x.terms x.amounts).are all_in_range) framed.spelled c.put-length.ensures in
     let q = frame_put in
     let n = size in
-    rw accepted_as (done_post framed.frame _ c.put-length.new.0 _ (omega arith) refl q)
+    rw accepted_as (done_post framed.frame _ c.put-length.new.out _ (omega arith) refl q)

@@ -39,22 +39,22 @@ closer-requires c = (div-le_self (reach * reach) c.args.n, start_above c.args.n,
 pub closer-requires-2 : goal.closer-requires-2
 closer-requires-2 c =
     let above : 0 < reach * reach / c.args.n = most_above c.args.n c.requires c.ranges.n.fits in
-    (stepped above (first c κs) c.closer.ensures).0
+    (stepped above (closer-requires c.before) c.closer.ensures).0
 
 pub closer-requires-3 : goal.closer-requires-3
 closer-requires-3 c =
     let above : 0 < reach * reach / c.args.n = most_above c.args.n c.requires c.ranges.n.fits in
-    (stepped above (second c κs) c.closer-2.ensures).0
+    (stepped above (closer-requires-2 c.before) c.closer-2.ensures).0
 
 pub closer-guess-requires : goal.closer-guess-requires
 closer-guess-requires c =
     let above : 0 < reach * reach / c.args.n = most_above c.args.n c.requires c.ranges.n.fits in
-    (stepped above (third c κs) c.closer-3.ensures).0
+    (stepped above (closer-requires-3 c.before) c.closer-3.ensures).0
 
 pub loop-guess-init : goal.loop-guess-init
 loop-guess-init c =
     let above : 0 < reach * reach / c.args.n = most_above c.args.n c.requires c.ranges.n.fits in
-    stepped above (fourth c tt) c.closer-guess.ensures
+    stepped above (closer-guess-requires c.before) c.closer-guess.ensures
 
 pub overflow_mul-guess : goal.overflow_mul-guess
 overflow_mul-guess c =

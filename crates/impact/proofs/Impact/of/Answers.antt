@@ -60,7 +60,7 @@ returns-then-low-high c =
     let d = c.place_of-low.ensures in
     let e = c.place_of-high.ensures in
     (omega arith, omega arith) in
-    let r = place_requires c tt in
+    let r = place-requires c.before in
     place_found _ _ _ _ _ (omega arith) c.most_square-most.ensures r.1 between.1 c.place.ensures
 
 pub returns : goal.returns
