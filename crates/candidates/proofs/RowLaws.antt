@@ -59,7 +59,7 @@ module _ (test : ℕ → Bool) (o count : ℕ) (picked : List ℕ) (m j n : ℕ)
     long = length-set picked m j ∙ before.long;
     below = λ i h. this i (eqb i m) refl h;
     left =
-        rw (add-one, take-suc-set picked m j (omega (arith, before.long)))
+        rw (add-one m, take-suc-set picked m j (omega (arith, before.long)))
         (append_snoc (take m picked) j (select test (ring (next j) (n - 1))) ∙ rw (ring_step j n some, e) at before.left);
   }
     where
@@ -361,6 +361,7 @@ module _ (xs : List ℕ) (j : ℕ) (r r' : List ℕ) where
       go t true e m = this t e
       go t false e (inl m) = other (test j) new t (eqb-false t j e) ∙ before.done t m
       go t false e (inr (inl z)) = absurd (eqb-false t j e z)
+      go t false e (inr (inr z)) = absurd z
 
       one : (t : ℕ) (b : Bool) → eqb t j ≡ b → (flag_of r t ≡ false) ⊎ (flag_of r t ≡ test t) → (flag_of r' t ≡ false) ⊎ (flag_of r' t ≡ test t)
       one t true e f = inr (this t e)

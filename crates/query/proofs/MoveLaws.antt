@@ -230,7 +230,7 @@ module _ {w₀ w : List ℕ} {o n : ℕ} {m : Move} {aa ga sa ca : List Message}
 
     module _ (unreached : reached its old (ga ++ ca) ≡ false) where
       neither : (reached its old ga ≡ false) × (reached its old ca ≡ false)
-      neither = Tests.or-false (reached its old ga) (reached its old ca) (sym (reached_append its old ga ca) ∙ unreached)
+      neither = Tests.or_false (reached its old ga) (reached its old ca) (sym (reached_append its old ga ca) ∙ unreached)
 
       same_flags : Exact w m.first m.count (flags w q) its old
       same_flags j =

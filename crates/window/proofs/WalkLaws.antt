@@ -2,12 +2,12 @@
 use Prim.Native.Nat.{ℕ, suc, ◌+◌, ◌-◌, ◌%◌, ◌≤◌, ◌<◌}
 use native.Mathlib.Omega.{arith}
 use mathlib.Core.Path.{◌≡◌, refl, sym, ap, ◌∙◌, subst}
-use mathlib.Core.Bool.{Bool, true, false, cond, not, ◌||◌, or_assoc, or-false}
+use mathlib.Core.Bool.{Bool, true, false, cond, ◌||◌, or_assoc, or-false}
 use mathlib.Core.List.{List, [], ◌∷◌, ◌++◌, map, map-append}
 use lib.ListN.{length, get_or}
 use lib.Dec.{eqb, ltb}
 use mathlib.Core.Logic.{◌⊎◌, inl, inr, ⊎_elim}
-use borrow.Author.Tests.{not-true, not-false, eqb-true, eq-eqb, ne_eqb, lt-ltb, le-ltb}
+use borrow.Author.Tests.{eqb-true, eq-eqb, ne_eqb, lt-ltb, le-ltb}
 use Rattle.paper.proofs.Tests.{by_bool}
 use Rattle.paper.proofs.Tests as Tests
 use Rattle.paper.proofs.SortLaws.{in_right}
@@ -27,13 +27,13 @@ module _ (w : List ℕ) (o n : ℕ) (some : 0 < n) where
     told : {d : Bool} → b ≡ d → past T clock (slot w o).time ≡ d
     told e = ap (past T clock) (sym read) ∙ sym test ∙ e
 
-    pub past_stop : not b ≡ true → window w o n ≡ drop_past T clock (window w o n)
+    pub past_stop : b ≡ false → window w o n ≡ drop_past T clock (window w o n)
     unfolding drop_past
-    past_stop e = rw (window_step, told (not-true b e))
+    past_stop e = rw (window_step, told e)
 
-    pub past_go : not b ≡ false → {p : ℕ} → p ≡ next o → drop_past T clock (window w p (n - 1)) ≡ drop_past T clock (window w o n)
+    pub past_go : b ≡ true → {p : ℕ} → p ≡ next o → drop_past T clock (window w p (n - 1)) ≡ drop_past T clock (window w o n)
     unfolding drop_past
-    past_go e h = rw (h, window_step, told (not-false b e))
+    past_go e h = rw (h, window_step, told e)
 
 -- none left
 pub past_none : (w : List ℕ) (o n : ℕ) → n ≤ 0 → (T clock : ℕ) → window w o n ≡ drop_past T clock (window w o n)
@@ -91,7 +91,7 @@ Unseen w s first count j left = (j < slots) × (seek w s (ring j left) ≡ seek 
 seek_past : (w : List ℕ) (s : ℕ) (xs ys : List ℕ) → holds_serial s (map (slot w) xs) ≡ false → seek w s (xs ++ ys) ≡ seek w s ys
 unfolding seek holds_serial
 seek_past w s [] ys e = refl
-seek_past w s (x ∷ xs) ys e = let z = Tests.or-false (eqb (slot w x).serial s) (holds_serial s (map (slot w) xs)) e in rw z.0 (seek_past w s xs ys z.1)
+seek_past w s (x ∷ xs) ys e = let z = Tests.or_false (eqb (slot w x).serial s) (holds_serial s (map (slot w) xs)) e in rw z.0 (seek_past w s xs ys z.1)
 
 pub seek_run : (w : List ℕ) (s o n run : ℕ) → o < slots → run ≤ n → {b : Bool} → b ≡ holds_serial s (window w o (o + run - o)) → b ≡ false
     → seek w s (ring ((o + run) % slots) (n - run)) ≡ seek w s (ring o n)

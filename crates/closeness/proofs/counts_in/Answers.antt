@@ -19,4 +19,4 @@ loop-i-preserved c =
     (omega arith, simp length-set c.loop-i.invariant.1, filled_more f c.loop-i.counts c.loop-i.i _ (omega arith) c.loop-i.invariant.2 c.count_in.ensures)
 
 pub returns : goal.returns
-returns c = c.loop-i.invariant.2 p (omega arith)
+returns c = λ p h. c.loop-i.invariant.2 p (omega arith)

@@ -24,37 +24,42 @@ start_above n =
 most_above : (n : ℕ) → 0 < n → n < 2 ^ 32 → 0 < reach * reach / n
 most_above n h l = (le-div_iff_mul-le {k = n} {x = 1} {y = reach * reach} h).1 (omega arith)
 
+-- what is divided is above 0
+above : (c : goal.Start) → 0 < reach * reach / c.args.n
+above c =
+    most_above c.args.n c.requires c.ranges.n.fits
+
 pub overflow_sub-start : goal.overflow_sub-start
-overflow_sub-start c = leading_le 32 c.args.n
+overflow_sub-start c =
+    leading_le 32 c.args.n
 
 pub overflow_cast-start : goal.overflow_cast-start
-overflow_cast-start c = let h = half_most c.args.n in search rules
+overflow_cast-start c =
+    let h = half_most c.args.n in search rules
 
 pub overflow_shr-start : goal.overflow_shr-start
-overflow_shr-start c = let h = half_most c.args.n in search rules
+overflow_shr-start c =
+    let h = half_most c.args.n in search rules
 
 pub closer-requires : goal.closer-requires
-closer-requires c = (div-le_self (reach * reach) c.args.n, start_above c.args.n, div-le_self reach (2 ^ half c.args.n))
+closer-requires c =
+    (div-le_self (reach * reach) c.args.n, start_above c.args.n, div-le_self reach (2 ^ half c.args.n))
 
 pub closer-requires-2 : goal.closer-requires-2
 closer-requires-2 c =
-    let above : 0 < reach * reach / c.args.n = most_above c.args.n c.requires c.ranges.n.fits in
-    (stepped above (closer-requires c.before) c.closer.ensures).0
+    (stepped (above c.before) (closer-requires c.before) c.closer.ensures).0
 
 pub closer-requires-3 : goal.closer-requires-3
 closer-requires-3 c =
-    let above : 0 < reach * reach / c.args.n = most_above c.args.n c.requires c.ranges.n.fits in
-    (stepped above (closer-requires-2 c.before) c.closer-2.ensures).0
+    (stepped (above c.before.before) (closer-requires-2 c.before) c.closer-2.ensures).0
 
 pub closer-guess-requires : goal.closer-guess-requires
 closer-guess-requires c =
-    let above : 0 < reach * reach / c.args.n = most_above c.args.n c.requires c.ranges.n.fits in
-    (stepped above (closer-requires-3 c.before) c.closer-3.ensures).0
+    (stepped (above c.before.before.before) (closer-requires-3 c.before) c.closer-3.ensures).0
 
 pub loop-guess-init : goal.loop-guess-init
 loop-guess-init c =
-    let above : 0 < reach * reach / c.args.n = most_above c.args.n c.requires c.ranges.n.fits in
-    stepped above (closer-guess-requires c.before) c.closer-guess.ensures
+    stepped (above c.before.before.before.before) (closer-guess-requires c.before) c.closer-guess.ensures
 
 pub overflow_mul-guess : goal.overflow_mul-guess
 overflow_mul-guess c =
@@ -63,12 +68,12 @@ overflow_mul-guess c =
     omega arith
 
 pub loop-guess-smaller : goal.loop-guess-smaller
-loop-guess-smaller c = step_falls reach (omega arith) c.loop-guess.invariant.0.1 c.closer-guess-in-loop-guess.ensures
+loop-guess-smaller c =
+    step_falls reach (omega arith) c.loop-guess.invariant.0.1 c.closer-guess-in-loop-guess.ensures
 
 pub loop-guess-preserved : goal.loop-guess-preserved
 loop-guess-preserved c =
-    let above : 0 < reach * reach / c.args.n = most_above c.args.n c.requires c.ranges.n.fits in
-    stepped above c.loop-guess.invariant.0 c.closer-guess-in-loop-guess.ensures
+    stepped (above c.before.before.before.before.before.before.before) c.loop-guess.invariant.0 c.closer-guess-in-loop-guess.ensures
 
 pub returns : goal.returns
 returns c =

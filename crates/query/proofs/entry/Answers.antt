@@ -7,25 +7,26 @@ use Rattle.memory.proofs.WordLaws.{words_length}
 use Rattle.query.proofs.PlaceLaws.{keys_most, entry_is}
 use Rattle.query.proofs.entry.Goals as goal
 
+-- a list has no more entries than places
+within : (c : goal.After-shared_slice_known-1) → c.args.i < most_listed
+within c =
+    omega (arith, keys_most (words c.args.state.now) c.args.q)
+
 pub overflow_add-at-3 : goal.overflow_add-at-3
 overflow_add-at-3 c =
-    let within : c.args.i < most_listed = omega (arith, keys_most (words c.args.state.now) c.args.q) in
-    omega (arith, within)
+    omega (arith, (within c))
 
 pub get-requires : goal.get-requires
 get-requires c =
-    let within : c.args.i < most_listed = omega (arith, keys_most (words c.args.state.now) c.args.q) in
-    omega (arith, within)
+    omega (arith, (within c))
 
 pub overflow_add-at-5 : goal.overflow_add-at-5
 overflow_add-at-5 c =
-    let within : c.args.i < most_listed = omega (arith, keys_most (words c.args.state.now) c.args.q) in
-    omega (arith, within)
+    omega (arith, (within c.before))
 
 pub get-requires-2 : goal.get-requires-2
 get-requires-2 c =
-    let within : c.args.i < most_listed = omega (arith, keys_most (words c.args.state.now) c.args.q) in
-    omega (arith, within)
+    omega (arith, (within c.before))
 
 pub returns : goal.returns
 returns c =

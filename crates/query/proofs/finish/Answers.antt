@@ -7,14 +7,17 @@ use Rattle.query.proofs.SettleLaws.{Sixteen, sifted_exact, finished}
 use Rattle.query.proofs.finish.Goals as goal
 
 pub sifted_rows-kept-requires : goal.sifted_rows-kept-requires
-sifted_rows-kept-requires c = let p = c.requires in ((search rules, search rules, search rules, p.1.1.0.n_most), p.1.0)
+sifted_rows-kept-requires c = record {
+  m_le_slots = (search rules, search rules, search rules, c.requires.in_range.n_most);
+  by_index = c.requires.by_index;
+}
 
 pub returns : goal.returns
 returns c =
     let sixteen : Sixteen c.args.list =
     record { most = omega arith; serials = search (rules, length_unmapped); keys = search (rules, length_unmapped) } in
     let eight : length c.args.raised ≡ 8 = search (rules, length_unmapped) in
-    let range = c.requires.1.1.0 in
+    let range = c.requires.in_range in
     record {
       keeps = c.store.ensures.keeps;
       right = λ first count fs hs ms query ho picked looked long lifted ready.

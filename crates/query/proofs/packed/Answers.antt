@@ -16,13 +16,13 @@ loop-i-init c = record { bound = omega arith; wide = refl; done = λ j h. absurd
 pub overflow_mul-pairs : goal.overflow_mul-pairs
 overflow_mul-pairs c =
     let fit : let a = c.args in let i = c.loop-i.i in (get_or a.terms i 0 < term_limit) × (get_or a.weights i 0 < weight_limit) =
-    c.requires.1 c.loop-i.i (omega arith) in
+    c.requires.by_index c.loop-i.i (omega arith) in
     omega (arith, fit)
 
 pub overflow_add-pairs : goal.overflow_add-pairs
 overflow_add-pairs c =
     let fit : let a = c.args in let i = c.loop-i.i in (get_or a.terms i 0 < term_limit) × (get_or a.weights i 0 < weight_limit) =
-    c.requires.1 c.loop-i.i (omega arith) in
+    c.requires.by_index c.loop-i.i (omega arith) in
     omega (arith, fit)
 
 pub bounds-pairs-i : goal.bounds-pairs-i

@@ -10,5 +10,5 @@ returns c =
     let room : let a = c.args in (a.n ≤ length a.terms) × (a.n ≤ length a.weights) =
     (omega arith, omega arith) in
     let pre = c.requires in
-    query_put _ _ c.args.q c.args.k c.args.n pre.0.0 pre.0.1 (omega arith) pre.0.2 c.put.ensures c.put-2.ensures
+    query_put _ _ c.args.q c.args.k c.args.n pre.state_len.0 pre.state_len.1 (omega arith) pre.state_len.2 c.put.ensures c.put-2.ensures
     c.args.terms c.args.weights room.0 room.1 c.packed-pairs.ensures c.store8.ensures

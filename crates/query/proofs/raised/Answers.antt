@@ -10,10 +10,10 @@ pub returns-then-list-query : goal.returns-then-list-query
 returns-then-list-query c = let a = c.args in lifted_none a.query a.thresholds a.list (λ e h. omega arith)
 
 pub weighted-requires : goal.weighted-requires
-weighted-requires c = in_limits_lem c.args.query c.args.thresholds c.requires.0 c.requires.1.1
+weighted-requires c = in_limits_lem c.args.query c.args.thresholds c.requires.in_range c.requires.count_le_most_listed.1
 
 pub raised-requires : goal.raised-requires
-raised-requires c = slack c.args.query c.args.thresholds c.last_score-kth.result c.requires.0 c.requires.1.1 (omega arith)
+raised-requires c = slack c.args.query c.args.thresholds c.last_score-kth.result c.requires.in_range c.requires.count_le_most_listed.1 (omega arith)
 
 pub returns-then-weighted-kth : goal.returns-then-weighted-kth
 returns-then-weighted-kth c =

@@ -10,19 +10,22 @@ use Rattle.query.proofs.refill.Goals as goal
 pub settled-done-requires : goal.settled-done-requires
 settled-done-requires c =
     let picked = c.having-m.ensures in
-    let p = c.requires in
-    ((search rules, search rules, omega (arith, picked.within), picked.long), (picked.below, (p.1, λ i. rw (zero_at 8 i) (omega arith))))
+    record {
+      state_len = (search rules, search rules, omega (arith, picked.within), picked.long);
+      by_index = picked.below;
+      in_range = c.requires.in_range;
+      by_index_2 = λ i. rw (zero_at 8 i) (omega arith);
+    }
 
 pub returns : goal.returns
 returns c =
-    let h = c in
-    let a = h.args in
+    let a = c.args in
     let r = a.query in
     let e = c.settled-done.ensures.certain (zero_sum r.n r.weights (replicate 8 0) (λ i. zero_at 8 i)) in
     record {
       keeps = c.settled-done.ensures.keeps;
       right = λ ms query over terms says is.
           c.settled-done.ensures.right e a.first a.count all_flags ms query (omega arith)
-          (having_all a.first a.count (omega arith) (having_shares (h.having-m.ensures.right is.rising is.known))) over terms says is
+          (having_all a.first a.count (omega arith) (having_shares (c.having-m.ensures.right is.rising is.known))) over terms says is
           (λ i h. zero_at 8 i) (shown_all (omega arith) over) (λ j h i x. all_flagged j h);
     }

@@ -4,7 +4,6 @@ use native.Mathlib.Omega.{arith}
 use mathlib.Core.Path.{subst, ◌∙◌}
 use mathlib.Core.List.{List}
 use borrow.Author.Rules.{rules}
-use borrow.Author.Tests.{not-true, not-false}
 use Rattle.memory.specs.Words.{words}
 use Rattle.query.specs.Post.{Refilled}
 use Rattle.query.proofs.SettleLaws.{having_picked, shown_exact}
@@ -13,17 +12,21 @@ use Rattle.query.proofs.settle.Goals as goal
 pub settled-requires : goal.settled-requires
 settled-requires c =
     let picked = c.flagged_slots-m.ensures in
-    let p = c.requires in
-    ((search rules, search rules, omega (arith, picked.within), picked.long), (picked.below, p.1))
+    record {
+      state_len = (search rules, search rules, omega (arith, picked.within), picked.long);
+      by_index = picked.below;
+      in_range = c.requires.in_range;
+      by_index_2 = c.requires.by_index;
+    }
 
 pub refill-requires : goal.refill-requires
-refill-requires c = (search rules, c.requires.1.0)
+refill-requires c = record { state_len = search rules; in_range = c.requires.in_range }
 
 pub returns-then-not-settled : goal.returns-then-not-settled
 returns-then-not-settled c =
     let a = c.args in
-    let same = c.settled.ensures.refused (not-true _ c.if-not-settled.true) in
-    let refilled = subst (λ (v : List ℕ). Refilled v a.q a.first a.count a.query (words c.refill.new.0)) same c.refill.ensures in
+    let same = c.settled.ensures.refused c.if-not-settled.true in
+    let refilled = subst (λ (v : List ℕ). Refilled v a.q a.first a.count a.query (words c.refill.new.state)) same c.refill.ensures in
     record { keeps = refilled.keeps; right = λ ms query over terms says is unused exact. refilled.right ms query over terms says is }
 
 pub returns-else-not-settled : goal.returns-else-not-settled
@@ -32,6 +35,6 @@ returns-else-not-settled c =
     record {
       keeps = c.settled.ensures.keeps;
       right = λ ms query over terms says is unused exact.
-          c.settled.ensures.right (not-false _ c.if-not-settled.false) a.first a.count a.flags ms query (omega arith)
+          c.settled.ensures.right c.if-not-settled.false a.first a.count a.flags ms query (omega arith)
           (having_picked c.flagged_slots-m.ensures.right) over terms says is unused (shown_exact (omega arith) over exact) (λ j h i e. exact j h i ∙ e);
     }

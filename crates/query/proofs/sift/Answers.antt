@@ -8,16 +8,21 @@ use Rattle.query.proofs.sift.Goals as goal
 pub look-requires : goal.look-requires
 look-requires c =
     let picked = c.flagged_slots-m.ensures in
-    let p = c.requires in
-    ((search rules, omega (arith, picked.within), picked.long, p.1.0.n_most), ((search rules, λ i. zero_at 2313 i), picked.below))
+    record {
+      state_len = (search rules, omega (arith, picked.within), picked.long, c.requires.in_range.n_most);
+      rows_len = (search rules, λ i. zero_at 2313 i);
+      by_index = picked.below;
+    }
 
 pub finish-requires : goal.finish-requires
 finish-requires c =
-    let looked = c.look.ensures in
-    let p = c.requires in (
-      (search rules, search rules, omega (arith, c.flagged_slots-m.ensures.within), c.flagged_slots-m.ensures.long, looked.long),
-      (c.flagged_slots-m.ensures.below, p.1),
-    )
+    let picked = c.flagged_slots-m.ensures in
+    record {
+      state_len = (search rules, search rules, omega (arith, picked.within), picked.long, c.look.ensures.long);
+      by_index = picked.below;
+      in_range = c.requires.in_range;
+      count_le_most_listed = c.requires.count_le_most_listed;
+    }
 
 pub returns : goal.returns
 returns c =

@@ -1,8 +1,6 @@
 -- `put_line` meets its contract. Assumes nothing.
 use native.Mathlib.Omega.{arith}
-use mathlib.Core.Path.{ap}
-use lib.ListN.{length, length-set, length-take, length-drop}
-use Rattle.memory.specs.Words.{big_bytes}
+use lib.ListN.{length-set, length-take, length-drop}
 use Rattle.screen.proofs.LineLaws.{line_bytes_lem}
 use Rattle.screen.proofs.put_line.Goals as goal
 
@@ -14,10 +12,6 @@ slice_bounds-put_entry-start c = simp length-set (omega arith)
 
 pub put_entry-requires : goal.put_entry-requires
 put_entry-requires c = simp (length-take, length-drop, length-set) (omega arith)
-
-pub shape_of-out : goal.shape_of-out
-unfolding big_bytes
-shape_of-out c = omega (arith, ap length (returns c))
 
 pub returns : goal.returns
 returns c =

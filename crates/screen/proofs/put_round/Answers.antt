@@ -9,17 +9,16 @@ pub loop-j-init : goal.loop-j-init
 loop-j-init c = writing_none (omega arith)
 
 pub overflow_cast-q : goal.overflow_cast-q
-overflow_cast-q c = omega (arith, c.shared_slice_known-in-loop-j-1.given c.loop-j.j)
+overflow_cast-q c = omega arith
 
 pub entry-shown-requires : goal.entry-shown-requires
 entry-shown-requires c =
-    let pre = c.requires in
-    let k = pre.1 c.loop-j.j (omega arith) in
-    (pre.0.0, k.0, k.1)
+    let k = c.requires.by_index c.loop-j.j (omega arith) in
+    (c.requires.state_len.0, k.0, k.1)
 
 pub loop-j-preserved : goal.loop-j-preserved
 loop-j-preserved c =
-    let pre = c.requires.0 in
+    let pre = c.requires.state_len in
     writing_more pre.1 pre.2 pre.3 (omega arith) c.loop-j.invariant refl c.entry-shown.ensures c.put_line.ensures
 
 pub returns : goal.returns

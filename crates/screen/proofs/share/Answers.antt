@@ -4,7 +4,6 @@ use native.Mathlib.Omega.{arith}
 use mathlib.Core.Path.{refl, sym}
 use mathlib.Core.Logic.{inl, inr}
 use lib.ListN.{length-take, length-drop}
-use borrow.Author.Tests.{ltb-false}
 use Rattle.screen.proofs.RoundLaws.{sharing_none, still, sharing_more, sharing_all}
 use Rattle.screen.proofs.share.Goals as goal
 
@@ -23,10 +22,11 @@ slice_bounds-put_round-end c = sym c.with_entry-count.ensures.known.long
 pub put_round-requires : goal.put_round-requires
 put_round-requires c =
     let pre = c.requires in
-    let known = c.with_entry-count.ensures.known in (
-      (pre.0, known.long, omega (arith, known.most), simp (length-take, length-drop) (omega (arith, c.loop-i.invariant.long, pre.2))),
-      still pre.2 (omega arith) c.with_entry-count.ensures c.lesser-n.ensures c.loop-i.invariant,
-    )
+    let known = c.with_entry-count.ensures.known in
+    record {
+      state_len = (pre.0, known.long, omega (arith, known.most), simp (length-take, length-drop) (omega (arith, c.loop-i.invariant.long, pre.2)));
+      by_index = still pre.2 (omega arith) c.with_entry-count.ensures c.lesser-n.ensures c.loop-i.invariant;
+    }
 
 pub loop-i-preserved : goal.loop-i-preserved
 loop-i-preserved c =
@@ -34,10 +34,10 @@ loop-i-preserved c =
     c.put_round.ensures
 
 pub returns-else-count-gt0 : goal.returns-else-count-gt0
-returns-else-count-gt0 c = let l = c.loop-i in sharing_all (inr (inr (ltb-false 0 l.count c.if-count-gt0.false))) l.invariant
+returns-else-count-gt0 c = let l = c.loop-i in sharing_all (inr (inr c.if-count-gt0.false)) l.invariant
 
 pub returns-else-placed-lines : goal.returns-else-placed-lines
-returns-else-placed-lines c = sharing_all (inr (inl (ltb-false c.loop-i.placed c.args.lines c.if-placed-lines.false))) c.loop-i.invariant
+returns-else-placed-lines c = sharing_all (inr (inl c.if-placed-lines.false)) c.loop-i.invariant
 
 pub returns-after-loop-i : goal.returns-after-loop-i
 returns-after-loop-i c = sharing_all (inl (omega arith)) c.loop-i.invariant

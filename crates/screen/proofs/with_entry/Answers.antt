@@ -2,16 +2,16 @@
 use Prim.Native.Nat.{◌-◌}
 use native.Mathlib.Omega.{arith}
 use mathlib.Core.Path.{refl}
-use mathlib.Core.Logic.{⊎_elim}
 use borrow.Author.Rules.{rules}
 use Rattle.screen.proofs.WaitLaws.{choosing_none, number_below, choosing_kept, choosing_passed, choosing_all}
 use Rattle.screen.proofs.with_entry.Goals as goal
+use Rattle.screen.proofs.with_entry.Goals.{then-i-listed, else-i-listed}
 
 pub loop-j-init : goal.loop-j-init
 loop-j-init c = choosing_none (omega arith) (omega arith) (search rules)
 
 pub overflow_cast-q : goal.overflow_cast-q
-overflow_cast-q c = omega (arith, c.slice_known-in-loop-j-1.given c.loop-j.j)
+overflow_cast-q c = omega arith
 
 pub listed-requires : goal.listed-requires
 listed-requires c =
@@ -22,10 +22,10 @@ pub loop-j-preserved : goal.loop-j-preserved
 loop-j-preserved c =
     let known = c.requires.1 in
     let e = c.listed.ensures.1 in
-    ⊎_elim
-    (λ w. rw (w.1, w.2) (choosing_kept known (omega arith) refl c.loop-j.invariant (omega arith)))
-    (λ w. rw (w.1, w.2) (choosing_passed known (omega arith) refl c.loop-j.invariant (omega arith)))
-    c.if-i-listed.branch
+    elim c.if-i-listed.branch [
+      then-i-listed w ↦ rw (w.queries-is, w.n-is) (choosing_kept known (omega arith) refl c.loop-j.invariant (omega arith))
+    | else-i-listed w ↦ rw (w.queries-is, w.n-is) (choosing_passed known (omega arith) refl c.loop-j.invariant (omega arith))
+    ]
 
 pub returns : goal.returns
 returns c = choosing_all c.requires.1.most (omega arith) c.loop-j.invariant

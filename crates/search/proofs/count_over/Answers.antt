@@ -2,11 +2,11 @@
 use Prim.Native.Nat.{◌-◌}
 use native.Mathlib.Omega.{arith}
 use mathlib.Core.Path.{refl, ap, ◌∙◌}
-use mathlib.Core.Logic.{⊎_elim}
 use lib.Seq.{take_all}
 use Rattle.search.specs.Cut.{over}
 use Rattle.search.proofs.ColumnLaws.{over_hit, over_miss}
 use Rattle.search.proofs.count_over.Goals as goal
+use Rattle.search.proofs.count_over.Goals.{then-cap-column, else-cap-column}
 
 pub loop-i-init : goal.loop-i-init
 unfolding over
@@ -16,10 +16,10 @@ pub loop-i-preserved : goal.loop-i-preserved
 loop-i-preserved c =
     let l = c.loop-i in
     let a = c.args in
-    ⊎_elim
-    (λ w. (omega arith, omega arith, rw w.1 (over_hit a.column.now l.i a.cap (omega arith) l.invariant.2 (omega arith))))
-    (λ w. (omega arith, omega arith, rw w.1 (over_miss a.column.now l.i a.cap (omega arith) l.invariant.2 (omega arith))))
-    c.if-cap-column.branch
+    elim c.if-cap-column.branch [
+      then-cap-column w ↦ (omega arith, omega arith, rw w.count-is (over_hit a.column.now l.i a.cap (omega arith) l.invariant.2 (omega arith)))
+    | else-cap-column w ↦ (omega arith, omega arith, rw w.count-is (over_miss a.column.now l.i a.cap (omega arith) l.invariant.2 (omega arith)))
+    ]
 
 pub returns : goal.returns
 returns c =

@@ -27,7 +27,7 @@ loop-p-preserved c =
     let inside : l.p < most_terms = omega (arith, c.requires.2) in
     let lent : slots * l.p + a.m - slots * l.p ≡ a.m = omega arith in (
       omega arith,
-      column_turn a.rows.now a.m l.p l.columns c.put_column.new.1.1.0 c.requires.1 inside l.invariant.1 lent
+      column_turn a.rows.now a.m l.p l.columns c.put_column.new.column c.requires.1 inside l.invariant.1 lent
           (part_long l.columns a.m l.p (omega (arith, c.requires.1, l.invariant.1.long))) c.put_column.ensures,
     )
 

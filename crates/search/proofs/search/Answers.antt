@@ -10,8 +10,14 @@ use Rattle.query.proofs.SettleLaws.{Sixteen}
 use Rattle.search.proofs.FoundLaws.{picked_size, found_list, found_read, none_found}
 use Rattle.search.proofs.search.Goals as goal
 
+few : (c : goal.After-picked-3-1) → c.having-m.result ≤ slots
+few c =
+    omega (arith, c.having-m.ensures.within, c.requires.2)
+
 pub having-m-requires : goal.having-m-requires
-having-m-requires c = (search rules, search rules, search rules, search rules, c.requires.3.n_most)
+having-m-requires c =
+    (search rules, search rules, search rules, search rules, c.requires.3.n_most)
+
 
 -- no slot is picked
 pub returns-then-m-eq0 : goal.returns-then-m-eq0
@@ -33,53 +39,52 @@ returns-then-m-eq0 c =
 
 pub look-requires : goal.look-requires
 look-requires c =
-    let few : c.having-m.result ≤ slots = omega (arith, c.having-m.ensures.within, c.requires.2) in
     let picked = c.having-m.ensures in
-    ((search rules, few, picked.long, c.requires.3.n_most), ((refl, λ i. zero_at 2313 i), picked.below))
+    record {
+      state_len = (search rules, (few c.before), picked.long, c.requires.3.n_most);
+      rows_len = (refl, λ i. zero_at 2313 i);
+      by_index = picked.below;
+    }
 
 pub ranked_rows-list-requires : goal.ranked_rows-list-requires
 ranked_rows-list-requires c =
-    let few : c.having-m.result ≤ slots = omega (arith, c.having-m.ensures.within, c.requires.2) in
     let picked = c.having-m.ensures in
     let looked = c.look.ensures in
     let fit = c.requires.3 in
-    ((search rules, few, picked.long, fit.n_most, fit.k_most), ((looked.long, looked.right.narrow, fit.weights_most), picked.below))
+    record {
+      state_len = (search rules, (few c.before.before.before.before.before), picked.long, fit.n_most, fit.k_most);
+      rows_len = (looked.long, looked.right.narrow, fit.weights_most);
+      by_index = picked.below;
+    }
 
 pub put_columns-requires : goal.put_columns-requires
 put_columns-requires c =
-    let few : c.having-m.result ≤ slots = omega (arith, c.having-m.ensures.within, c.requires.2) in
-    (c.look.ensures.long, few, c.pre.3.n_most, search rules)
+    (c.look.ensures.long, (few c.before.before.before.before.before.before.before.before), c.requires.3.n_most, search rules)
 
 pub postings_read-requires : goal.postings_read-requires
 postings_read-requires c =
-    let few : c.having-m.result ≤ slots = omega (arith, c.having-m.ensures.within, c.requires.2) in
-    let sixteen : Sixteen c.ranked_rows-list.result =
-    record {
-  most = omega (arith, c.ranked_rows-list.ensures.within, c.requires.3.k_most);
-  serials = search (rules, length_unmapped);
-  keys = search (rules, length_unmapped); in
-    (c.put_columns.ensures.long, few, c.pre.3, sixteen.most)
+    (c.put_columns.ensures.long, (few c.before.before.before.before.before.before.before.before.before.before.before), c.requires.3, omega (arith, c.ranked_rows-list.ensures.within, c.requires.3.k_most))
 
 pub returns : goal.returns
 returns c =
-    let few : c.having-m.result ≤ slots = omega (arith, c.having-m.ensures.within, c.requires.2) in
     let sixteen : Sixteen c.ranked_rows-list.result =
     record {
-  most = omega (arith, c.ranked_rows-list.ensures.within, c.requires.3.k_most);
-  serials = search (rules, length_unmapped);
-  keys = search (rules, length_unmapped); in
+      most = omega (arith, c.ranked_rows-list.ensures.within, c.requires.3.k_most);
+      serials = search (rules, length_unmapped);
+      keys = search (rules, length_unmapped);
+    } in
     let picked = c.having-m.ensures in
-    let fit = c.pre.3 in
+    let fit = c.requires.3 in
     let looked = c.look.ensures.right in
     let ranked = c.ranked_rows-list.ensures in
-    let size = picked_size picked few in
+    let size = picked_size picked (few c.before.before.before.before.before.before.before.before.before.before.before.before) in
     record {
       most = sixteen.most;
       tidy = ranked.tidy;
       right = λ ms q over distinct terms is.
           let js = having_shares (picked.right is.rising is.known) in (
             found_list js looked ranked over distinct terms is,
-            found_read js looked ranked over distinct terms is c.postings_read.result {cols = c.put_columns.new.1.1.1.0} fit sixteen
-                (omega (arith, size, few)) (rw size c.put_columns.ensures) (rw size c.postings_read.ensures),
+            found_read js looked ranked over distinct terms is c.postings_read.result {cols = c.put_columns.new.columns} fit sixteen
+                (omega (arith, size, (few c.before.before.before.before.before.before.before.before.before.before.before.before))) (rw size c.put_columns.ensures) (rw size c.postings_read.ensures),
           );
     }

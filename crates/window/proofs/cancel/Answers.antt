@@ -3,11 +3,6 @@ use native.Mathlib.Omega.{arith}
 use Rattle.window.proofs.SlotLaws.{slot_cancelled}
 use Rattle.window.proofs.cancel.Goals as goal
 
-pub overflow_mul-urgency : goal.overflow_mul-urgency
-overflow_mul-urgency c =
-    let read = c.urgency_in-urgency.ensures in
-    omega arith
-
 pub returns : goal.returns
 returns c =
     slot_cancelled _ _ _ _ (omega arith) (omega arith) (omega (arith, c.serial_in-serial.ensures, c.size_in-size.ensures))

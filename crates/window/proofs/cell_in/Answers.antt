@@ -6,13 +6,8 @@ use lib.ListN.{length, get_or}
 use Rattle.memory.specs.Words.{words}
 use Rattle.impact.proofs.CellLaws.{with_here, with_next, with_end}
 use Rattle.window.specs.Slot.{slot}
-use Rattle.window.proofs.SlotLaws.{size_most, slot_size, slot_cell}
+use Rattle.window.proofs.SlotLaws.{slot_size, slot_cell}
 use Rattle.window.proofs.cell_in.Goals as goal
-
-pub get-cell-requires : goal.get-cell-requires
-get-cell-requires c =
-    let a = c.args in
-    omega (arith, c.size_in-size.ensures, size_most a.state.now a.j (omega arith) (omega arith))
 
 pub returns-then-cell-term : goal.returns-then-cell-term
 returns-then-cell-term c =

@@ -1,23 +1,12 @@
 -- `has_place` meets its contract: the answer is that of the sum so far and of the cells from the i-th on. Assumes nothing.
 use Prim.Native.Nat.{◌-◌}
 use native.Mathlib.Omega.{arith}
-use mathlib.Core.Path.{refl, sym, ◌∙◌}
+use mathlib.Core.Path.{sym, ◌∙◌}
 use Rattle.memory.specs.Words.{words}
 use Rattle.window.specs.Slot.{slot}
-use Rattle.window.proofs.SlotLaws.{size_most, slot_size, slot_cell}
+use Rattle.window.proofs.SlotLaws.{slot_size, slot_cell}
 use Rattle.window.proofs.RowLaws.{touches_more, touches_end}
 use Rattle.window.proofs.has_place.Goals as goal
-
-pub loop-i-init : goal.loop-i-init
-loop-i-init c = (omega arith, c.size_in-size.ensures, omega arith, refl)
-
-pub get-cell-requires : goal.get-cell-requires
-get-cell-requires c =
-    let a = c.args in
-    omega (arith, size_most a.state.now a.j (omega arith) (omega arith))
-
-pub overflow_add-sum : goal.overflow_add-sum
-overflow_add-sum c = omega (arith, c.wide-sum.ensures)
 
 pub loop-i-preserved : goal.loop-i-preserved
 loop-i-preserved c =

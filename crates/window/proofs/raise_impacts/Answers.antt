@@ -5,17 +5,12 @@ use mathlib.Core.Path.{sym, ◌∙◌}
 use lib.ListN.{length-set}
 use Rattle.memory.specs.Words.{words}
 use Rattle.window.specs.Slot.{slot}
-use Rattle.window.proofs.SlotLaws.{size_most, slot_size, slot_cell}
+use Rattle.window.proofs.SlotLaws.{slot_size, slot_cell}
 use Rattle.window.proofs.TableLaws.{raising_none, cells_next, cells_end}
 use Rattle.window.proofs.raise_impacts.Goals as goal
 
 pub loop-i-init : goal.loop-i-init
 loop-i-init c = (omega arith, omega arith, raising_none)
-
-pub get-cell-requires : goal.get-cell-requires
-get-cell-requires c =
-    let a = c.args in
-    omega (arith, c.size_in-size.ensures, size_most a.state.now a.j (omega arith) (omega arith))
 
 pub loop-i-preserved : goal.loop-i-preserved
 loop-i-preserved c =

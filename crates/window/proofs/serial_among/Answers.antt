@@ -1,7 +1,6 @@
 -- `serial_among` meets its contract. Assumes nothing.
 use Prim.Native.Nat.{◌-◌}
 use native.Mathlib.Omega.{arith}
-use mathlib.Core.Path.{◌≡◌}
 use Rattle.window.proofs.WalkLaws.{serial_none, serial_more}
 use Rattle.window.proofs.serial_among.Goals as goal
 
@@ -13,10 +12,3 @@ loop-j-preserved c =
     let r = c.serial_in in
     let l = c.loop-j in
     (omega arith, omega arith, serial_more _ _ _ _ (omega arith) (omega arith) r.ensures l.invariant.2 c.either-found.ensures)
-
-pub returns : goal.returns
-returns c =
-    let l = c.loop-j in
-    let a = c.args in
-    let e : a.end - a.first ≡ l.j - a.first = omega arith in
-    rw e l.invariant.2

@@ -4,9 +4,6 @@ use mathlib.Core.Path.{◌∙◌}
 use Rattle.window.proofs.WalkLaws.{seek_none, seek_run}
 use Rattle.window.proofs.slot_of.Goals as goal
 
-pub returns-then-serial_among : goal.returns-then-serial_among
-returns-then-serial_among c = c.walk_to.ensures ∙ c.loop-left.invariant.1
-
 pub loop-left-preserved : goal.loop-left-preserved
 loop-left-preserved c =
     (omega arith, seek_run _ _ _ _ _ (omega arith) (omega arith) c.serial_among.ensures c.if-serial_among.false ∙ c.loop-left.invariant.1)

@@ -16,24 +16,6 @@ pub loop-i-init : goal.loop-i-init
 unfolding squares_of
 loop-i-init c = (omega arith, c.size_in-size.ensures, omega arith, omega arith)
 
-pub get-requires : goal.get-requires
-get-requires c =
-    let a = c.args in
-    omega (arith, size_most a.state.now a.j (omega arith) (omega arith))
-
-pub overflow_mul-sum : goal.overflow_mul-sum
-overflow_mul-sum c =
-    let small : c.count_of-count.result * c.count_of-count.result ≤ 255 * 255 =
-    square_most c.count_of-count.result c.count_of-count.ensures.1 in
-    record { fits = omega (arith, small) }
-
-pub overflow_add-sum : goal.overflow_add-sum
-overflow_add-sum c =
-    let small : c.count_of-count.result * c.count_of-count.result ≤ 255 * 255 =
-    square_most c.count_of-count.result c.count_of-count.ensures.1 in
-    let a = c.args in
-    record { fits = omega (arith, small, size_most a.state.now a.j (omega arith) (omega arith)) }
-
 pub loop-i-preserved : goal.loop-i-preserved
 loop-i-preserved c =
     let small : c.count_of-count.result * c.count_of-count.result ≤ 255 * 255 =

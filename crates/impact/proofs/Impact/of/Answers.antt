@@ -10,24 +10,24 @@ use Rattle.impact.specs.Table.{reach}
 use Rattle.impact.proofs.Places.{unit_most, low_place, high_place, place_found, top_of_none}
 use Rattle.impact.proofs.Impact.of.Goals as goal
 
-pub overflow_mul-parts : goal.overflow_mul-parts
-overflow_mul-parts c =
-    let parts_most : c.args.count * c.unit.result ≤ 255 * reach =
+-- the parts of a count are at most 255 times the scale's
+parts_most : (c : goal.After-unit) → c.args.count * c.unit.result ≤ 255 * reach
+parts_most c =
     let u = c.unit.result in
     let h : u ≤ reach = unit_most (max c.args.squares 1) u (omega arith) (rw c.greater.ensures at c.unit.ensures.0) in
-    mul-le-mul {n₂ = 255} {m₂ = reach} (omega arith) h in
-    let h = parts_most in search rules
+    mul-le-mul {n₂ = 255} {m₂ = reach} (omega arith) h
+
+pub overflow_mul-parts : goal.overflow_mul-parts
+overflow_mul-parts c =
+    let h = (parts_most c) in search rules
 
 pub overflow_add-parts : goal.overflow_add-parts
 overflow_add-parts c =
-    let parts_most : c.args.count * c.unit.result ≤ 255 * reach =
-    let u = c.unit.result in
-    let h : u ≤ reach = unit_most (max c.args.squares 1) u (omega arith) (rw c.greater.ensures at c.unit.ensures.0) in
-    mul-le-mul {n₂ = 255} {m₂ = reach} (omega arith) h in
-    let h = parts_most in search rules
+    let h = (parts_most c.before) in search rules
 
 pub returns-then-squares-eq0 : goal.returns-then-squares-eq0
-returns-then-squares-eq0 c = sym (top_of_none c.args.count c.args.squares (omega arith))
+returns-then-squares-eq0 c =
+    sym (top_of_none c.args.count c.args.squares (omega arith))
 
 pub place-requires : goal.place-requires
 place-requires c =

