@@ -7,26 +7,25 @@ use Rattle.memory.proofs.WordLaws.{words_length}
 use Rattle.query.proofs.PlaceLaws.{keys_most, entry_is}
 use Rattle.query.proofs.entry.Goals as goal
 
--- a list has no more entries than places
-within : (c : goal.After-shared_slice_known-1) → c.args.i < most_listed
-within c =
-    omega (arith, keys_most (words c.args.state.now) c.args.q)
-
 pub overflow_add-at-3 : goal.overflow_add-at-3
 overflow_add-at-3 c =
-    omega (arith, (within c))
+    let within : c.args.i < most_listed = omega (arith, keys_most (words c.args.state.now) c.args.q) in
+    omega (arith, within)
 
 pub get-requires : goal.get-requires
 get-requires c =
-    omega (arith, (within c))
+    let within : c.args.i < most_listed = omega (arith, keys_most (words c.args.state.now) c.args.q) in
+    omega (arith, within)
 
 pub overflow_add-at-5 : goal.overflow_add-at-5
 overflow_add-at-5 c =
-    omega (arith, (within c.before))
+    let within : c.args.i < most_listed = omega (arith, keys_most (words c.args.state.now) c.args.q) in
+    omega (arith, within)
 
 pub get-requires-2 : goal.get-requires-2
 get-requires-2 c =
-    omega (arith, (within c.before))
+    let within : c.args.i < most_listed = omega (arith, keys_most (words c.args.state.now) c.args.q) in
+    omega (arith, within)
 
 pub returns : goal.returns
 returns c =

@@ -11,14 +11,14 @@ use Rattle.query.specs.Record.{keys}
 use Rattle.query.proofs.PlaceLaws.{keys_length}
 use Rattle.query.proofs.listed.Goals as goal
 
-entries : (c : goal.After-shared_slice_known-1) → let a = c.args in length (keys (words a.state.now) a.q) ≡ min (get_or (words a.state.now) (listed_in a.q) 0) most_listed
-entries c =
-    let a = c.args in keys_length (words a.state.now) a.q (omega (arith, words_length a.state.now)) (omega arith)
-
 pub returns-then-count-lt-MOST_LISTED : goal.returns-then-count-lt-MOST_LISTED
 returns-then-count-lt-MOST_LISTED c =
-    (omega arith, omega (arith, c.get-count.ensures, (entries c.before.before)))
+    let entries : let a = c.args in length (keys (words a.state.now) a.q) ≡ min (get_or (words a.state.now) (listed_in a.q) 0) most_listed =
+    let a = c.args in keys_length (words a.state.now) a.q (omega (arith, words_length a.state.now)) (omega arith) in
+    (omega arith, omega (arith, c.get-count.ensures, entries))
 
 pub returns-else-count-lt-MOST_LISTED : goal.returns-else-count-lt-MOST_LISTED
 returns-else-count-lt-MOST_LISTED c =
-    (omega arith, omega (arith, c.get-count.ensures, (entries c.before.before)))
+    let entries : let a = c.args in length (keys (words a.state.now) a.q) ≡ min (get_or (words a.state.now) (listed_in a.q) 0) most_listed =
+    let a = c.args in keys_length (words a.state.now) a.q (omega (arith, words_length a.state.now)) (omega arith) in
+    (omega arith, omega (arith, c.get-count.ensures, entries))

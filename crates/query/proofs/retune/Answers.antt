@@ -7,17 +7,11 @@ use Rattle.query.specs.Post.{Lifted}
 use Rattle.query.proofs.SettleLaws.{Sixteen, same_arrays, finished}
 use Rattle.query.proofs.retune.Goals as goal
 
-eight : (c : goal.After-slice_known-1) → length c.args.thresholds ≡ 8
-eight c =
-    search (rules, length_unmapped)
-
 pub raised-next-requires : goal.raised-next-requires
-raised-next-requires c =
-    record { in_range = c.requires.in_range; count_le_most_listed = c.requires.count_le_most_listed }
+raised-next-requires c = record { in_range = c.requires.in_range; count_le_most_listed = c.requires.count_le_most_listed }
 
 pub sift-requires : goal.sift-requires
-sift-requires c =
-    record {
+sift-requires c = record {
   state_len = search rules;
   in_range = c.requires.in_range;
   count_le_most_listed = c.requires.count_le_most_listed.0;
@@ -27,18 +21,19 @@ pub returns-then-same : goal.returns-then-same
 returns-then-same c =
     let sixteen : Sixteen c.args.list =
     record { most = omega arith; serials = search (rules, length_unmapped); keys = search (rules, length_unmapped) } in
-    let eight_next : length c.raised-next.result ≡ 8 =
-    search (rules, length_unmapped) in
+    let eight : length c.args.thresholds ≡ 8 = search (rules, length_unmapped) in
+    let eight_next : length c.raised-next.result ≡ 8 = search (rules, length_unmapped) in
     let a = c.args in
-    let e : c.raised-next.result ≡ a.thresholds = same_arrays c.raised-next.result a.thresholds eight_next (eight c.before.before.before.before.before.before.before) (sym c.same.ensures ∙ c.if-same.true) in
+    let e : c.raised-next.result ≡ a.thresholds = same_arrays c.raised-next.result a.thresholds eight_next eight (sym c.same.ensures ∙ c.if-same.true) in
     record {
       keeps = c.store.ensures.keeps;
       right = λ ms query ready exact.
-          finished c.requires.in_range sixteen (eight c.before.before.before.before.before.before.before) (eight c.before.before.before.before.before.before.before) (subst (Lifted a.query a.thresholds a.list) e c.raised-next.ensures) ready (omega arith) exact
+          finished c.requires.in_range sixteen eight eight (subst (Lifted a.query a.thresholds a.list) e c.raised-next.ensures) ready (omega arith) exact
           c.store.ensures;
     }
 
 pub returns-else-same : goal.returns-else-same
 returns-else-same c =
+    let eight : length c.args.thresholds ≡ 8 = search (rules, length_unmapped) in
     let f = c.sift.ensures in
-    record { keeps = f.keeps; right = λ ms query ready exact. f.right c.args.thresholds ms query (eight c.before.before.before.before.before.before.before) c.raised-next.ensures ready }
+    record { keeps = f.keeps; right = λ ms query ready exact. f.right c.args.thresholds ms query eight c.raised-next.ensures ready }

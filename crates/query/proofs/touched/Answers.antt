@@ -8,35 +8,36 @@ use Rattle.query.specs.Touch.{found_sum, found_above}
 use Rattle.query.proofs.TouchLaws.{most, product_most, above_turn, sum_turn}
 use Rattle.query.proofs.touched.Goals as goal
 
--- what the products of a turn come to
-products : (c : goal.After-either-goes) → (c.get-pair.result % 16 * c.wide-new.result ≤ most) × (c.get-pair.result % 16 * c.wide-old.result ≤ most)
-products c =
-    (product_most c.get-pair.result c.wide-new.ensures.1, product_most c.get-pair.result c.wide-old.ensures.1)
-
 pub loop-i-init : goal.loop-i-init
 unfolding found_above found_sum
-loop-i-init c =
-    (omega arith, refl, refl, (refl, omega arith), (refl, omega arith))
+loop-i-init c = (omega arith, refl, refl, (refl, omega arith), (refl, omega arith))
 
 pub get-pair-requires : goal.get-pair-requires
-get-pair-requires c =
-    let n = c.clamped-n.ensures.at_most in omega arith
+get-pair-requires c = let n = c.clamped-n.ensures.at_most in omega arith
 
 pub overflow_mul-came : goal.overflow_mul-came
 overflow_mul-came c =
-    omega (arith, (products c))
+    let products : (c.get-pair.result % 16 * c.wide-new.result ≤ most) × (c.get-pair.result % 16 * c.wide-old.result ≤ most) =
+    (product_most c.get-pair.result c.wide-new.ensures.1, product_most c.get-pair.result c.wide-old.ensures.1) in
+    omega (arith, products)
 
 pub overflow_add-came : goal.overflow_add-came
 overflow_add-came c =
-    omega (arith, (products c))
+    let products : (c.get-pair.result % 16 * c.wide-new.result ≤ most) × (c.get-pair.result % 16 * c.wide-old.result ≤ most) =
+    (product_most c.get-pair.result c.wide-new.ensures.1, product_most c.get-pair.result c.wide-old.ensures.1) in
+    omega (arith, products)
 
 pub overflow_mul-went : goal.overflow_mul-went
 overflow_mul-went c =
-    omega (arith, (products c))
+    let products : (c.get-pair.result % 16 * c.wide-new.result ≤ most) × (c.get-pair.result % 16 * c.wide-old.result ≤ most) =
+    (product_most c.get-pair.result c.wide-new.ensures.1, product_most c.get-pair.result c.wide-old.ensures.1) in
+    omega (arith, products)
 
 pub overflow_add-went : goal.overflow_add-went
 overflow_add-went c =
-    omega (arith, (products c))
+    let products : (c.get-pair.result % 16 * c.wide-new.result ≤ most) × (c.get-pair.result % 16 * c.wide-old.result ≤ most) =
+    (product_most c.get-pair.result c.wide-new.ensures.1, product_most c.get-pair.result c.wide-old.ensures.1) in
+    omega (arith, products)
 
 pub loop-i-preserved : goal.loop-i-preserved
 loop-i-preserved c =
@@ -55,8 +56,7 @@ loop-i-preserved c =
 
 pub returns : goal.returns
 returns c =
-    let e : c.loop-i.i ≡ c.clamped-n.result =
-    omega arith in
+    let e : c.loop-i.i ≡ c.clamped-n.result = omega arith in
     record {
       size = c.clamped-n.result;
       clamped = subst (λ (v : ℕ). Clamped 1 8 v c.clamped-n.result) c.get.ensures c.clamped-n.ensures;

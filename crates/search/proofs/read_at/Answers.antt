@@ -8,47 +8,50 @@ use Rattle.search.specs.Post.{column}
 use Rattle.search.proofs.ColumnLaws.{part_is, part_long, read_turn}
 use Rattle.search.proofs.read_at.Goals as goal
 
-inside : (c : goal.In-loop-p) → c.loop-p.p < 8
-inside c =
-    omega (arith, c.requires.2.n_most)
-
 pub loop-p-init : goal.loop-p-init
 unfolding read_at
-loop-p-init c =
-    (omega arith, omega arith, refl)
+loop-p-init c = (omega arith, omega arith, refl)
 
 pub overflow_mul-start : goal.overflow_mul-start
 overflow_mul-start c =
-    omega (arith, (inside c))
+    let inside : c.loop-p.p < 8 = omega (arith, c.requires.2.n_most) in
+    omega (arith, inside)
 
 pub overflow_add-start : goal.overflow_add-start
 overflow_add-start c =
-    omega (arith, (inside c), c.requires.1)
+    let inside : c.loop-p.p < 8 = omega (arith, c.requires.2.n_most) in
+    omega (arith, inside, c.requires.1)
 
 pub offset_bounds-columns-start : goal.offset_bounds-columns-start
 offset_bounds-columns-start c =
-    omega (arith, (inside c))
+    let inside : c.loop-p.p < 8 = omega (arith, c.requires.2.n_most) in
+    omega (arith, inside)
 
 pub slice_bounds-count_over-end : goal.slice_bounds-count_over-end
 slice_bounds-count_over-end c =
-    omega (arith, (inside c), c.requires.0, c.requires.1)
+    let inside : c.loop-p.p < 8 = omega (arith, c.requires.2.n_most) in
+    omega (arith, inside, c.requires.0, c.requires.1)
 
 pub bounds-weights-p : goal.bounds-weights-p
 bounds-weights-p c =
-    (inside c.before)
+    let inside : c.loop-p.p < 8 = omega (arith, c.requires.2.n_most) in
+    inside
 
 pub cap-requires : goal.cap-requires
 cap-requires c =
-    (c.requires.3, (inside c.before), c.requires.2.weights_least c.loop-p.p (omega arith))
+    let inside : c.loop-p.p < 8 = omega (arith, c.requires.2.n_most) in
+    (c.requires.3, inside, c.requires.2.weights_least c.loop-p.p (omega arith))
 
 pub count_over-count-requires : goal.count_over-count-requires
 count_over-count-requires c =
+    let inside : c.loop-p.p < 8 = omega (arith, c.requires.2.n_most) in
     let a = c.args in
-    omega (arith, part_long a.columns.now a.m c.loop-p.p (omega (arith, (inside c.before.before), c.requires.0, c.requires.1)), c.requires.1)
+    omega (arith, part_long a.columns.now a.m c.loop-p.p (omega (arith, inside, c.requires.0, c.requires.1)), c.requires.1)
 
 pub overflow_add-count : goal.overflow_add-count
 overflow_add-count c =
-    omega (arith, c.count_over-count.ensures.1, (inside c.before.before.before))
+    let inside : c.loop-p.p < 8 = omega (arith, c.requires.2.n_most) in
+    omega (arith, c.count_over-count.ensures.1, inside)
 
 pub loop-p-preserved : goal.loop-p-preserved
 loop-p-preserved c =

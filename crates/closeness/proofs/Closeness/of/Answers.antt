@@ -10,31 +10,19 @@ use Rattle.rank.proofs.SumLaws.{sum_most}
 use Rattle.closeness.proofs.CloseLaws.{compared}
 use Rattle.closeness.proofs.Closeness.of.Goals as goal
 
--- counts have eight bits
-counts_below : (c : goal.After-counts_in-counts) → Below c.args.query.n (2 ^ count_width) c.counts_in-counts.result
-counts_below c =
-    λ i h. omega (arith, c.counts_in-counts.ensures i h)
-
-pub weighted-shared-requires : goal.weighted-shared-requires
-weighted-shared-requires c =
-    (search rules, c.requires.3, λ i h. omega (arith, (counts_below c) i h))
-
-pub weighted-requires : goal.weighted-requires
-weighted-requires c =
-    (search rules, c.requires.3, λ i h. omega (arith, c.requires.3 i h))
-
 pub divided-requires : goal.divided-requires
 divided-requires c =
+    let counts_below : Below c.args.query.n (2 ^ count_width) c.counts_in-counts.result =
+    λ i h. omega (arith, c.counts_in-counts.ensures i h) in
     let q = c.args.query in
     let below = c.requires.3 in
-    let shared = sum_most 255 q.n q.weights c.counts_in-counts.result below (counts_below c.before.before.before) in
+    let shared = sum_most 255 q.n q.weights c.counts_in-counts.result below counts_below in
     let squared = sum_most most_weight q.n q.weights q.weights below below in
     (omega (arith, c.weighted-shared.ensures), c.squares_in-squares.ensures.1, omega (arith, c.weighted.ensures))
 
 pub returns : goal.returns
 returns c =
-    let long : length c.args.query.terms ≡ 8 =
-    search (rules, length_unmapped) in
+    let long : length c.args.query.terms ≡ 8 = search (rules, length_unmapped) in
     let q = c.args.query in
     compared _ q c.counts_in-counts.result (omega (arith, long)) (search rules) c.counts_in-counts.ensures c.divided.result
     (rw (← c.weighted-shared.ensures, ← c.squares_in-squares.ensures.0, ← c.weighted.ensures) c.divided.ensures)
