@@ -443,7 +443,8 @@ module _ {w₀ w : List ℕ} {q o n : ℕ} {m : Move} {aa ga sa ca : List Messag
     says = says_same kept.keeps (inl (omega arith)) held.says;
     settled =
         rw (same_thresholds, same_keys)
-        (settled_again query aa (sa ++ ca) (held_of w₀ w q o n size) (candidates w' w' q m.first m.count) held.settled same_ranking (rw same_thresholds at above));
+        (settled_again query aa (sa ++ ca) (held_of w₀ w q o n size) (candidates w' w' q m.first m.count) held.settled same_ranking
+        (rw same_thresholds at above));
     ranked = same_keys ∙ held.ranked ∙ ap keyed same_ranking;
     flagged = flagged;
     no_threshold = λ i a z. keeps_at kept.keeps (thresholds_in q + i) (inl (omega arith)) ∙ held.no_threshold i a z;

@@ -65,8 +65,12 @@ module _ {w₀ w : List ℕ} {q o n : ℕ} {ms : List Message} {query : Rank.Que
   pub no_others : (i : ℕ) → length query.terms ≤ i → get_or hs i 0 ≡ 0
   no_others i h =
       ⊎_elim
-      (λ l. ap (λ (xs : List ℕ). get_or xs i 0) all_eight ∙ get_or-take 8 (drop (thresholds_in q) w) i 0 l ∙ get_or-drop (thresholds_in q) w i 0 ∙ held.no_threshold i h l)
-      (λ g. ap (λ (xs : List ℕ). get_or xs i 0) all_eight ∙ get_or-eq_default (take 8 (drop (thresholds_in q) w)) 0 (omega (arith, length-take 8 (drop (thresholds_in q) w))))
+      (λ l. ap (λ (xs : List ℕ). get_or xs i 0) all_eight
+          ∙ get_or-take 8 (drop (thresholds_in q) w) i 0 l
+          ∙ get_or-drop (thresholds_in q) w i 0
+          ∙ held.no_threshold i h l)
+      (λ g. ap (λ (xs : List ℕ). get_or xs i 0) all_eight
+          ∙ get_or-eq_default (take 8 (drop (thresholds_in q) w)) 0 (omega (arith, length-take 8 (drop (thresholds_in q) w))))
       (lt_or_ge i 8)
 
 -- ---- the flags
@@ -297,7 +301,8 @@ few_arrive newest = go (ltb newest slots)
     go true = omega arith
     go false = omega arith
 
-module _ {w₀ w : List ℕ} {q : ℕ} {m : Move} {coming going : List ℕ} {touch : Touch} (touched : Touched w q coming going touch) (tables : Tables w₀ m coming going)
+module _ {w₀ w : List ℕ} {q : ℕ} {m : Move} {coming going : List ℕ} {touch : Touch} (touched : Touched w q coming going touch)
+    (tables : Tables w₀ m coming going)
     {o n : ℕ} {aa ga sa ca : List Message} {query : Rank.Query} (change : Change w₀ w o n m aa ga sa ca) (terms : Terms query)
     (held : Held w₀ w q o n aa query) where
   abbrev qs : List Pair

@@ -44,7 +44,8 @@ module _ (w : List ℕ) (q : ℕ) (long : length w ≡ state_words) (number : q 
   word_at a i h = get_or-take most_listed (drop a w) i 0 h ∙ get_or-drop a w i 0
 
   -- one of its entries
-  pub entry_is : {i s c : ℕ} → i < length (keys w q) → s ≡ get_or w (serials_in q + i) 0 → c ≡ get_or w (keys_in q + i) 0 → line_with s (c / key_factor) ≡ listed_at w q i
+  pub entry_is : {i s c : ℕ} → i < length (keys w q) → s ≡ get_or w (serials_in q + i) 0 → c ≡ get_or w (keys_in q + i) 0
+      → line_with s (c / key_factor) ≡ listed_at w q i
   unfolding keys
   entry_is {i} h es ec =
       let within : i < most_listed = omega (arith, keys_most w q) in
@@ -116,7 +117,8 @@ module _ {w : List ℕ} (m : Move) {l : Ranked} {j n : ℕ} {r : Ranked} (p : Le
   unfolding withouts
   departed_out = sym (ap (λ (js : List ℕ). withouts (map (λ j. (slot w j).serial) js) (keyed_of r)) (ring_none j n none)) ∙ p.left
 
-  pub cancelled_leaves : {went least : ℕ} → least / key_factor ≤ went → {r' : Ranked} → m.cancelled < slots → Removed m.serial r r' → WithoutGone w m went least l r'
+  pub cancelled_leaves : {went least : ℕ} → least / key_factor ≤ went → {r' : Ranked} → m.cancelled < slots → Removed m.serial r r'
+      → WithoutGone w m went least l r'
   unfolding withouts
   cancelled_leaves {went} {least} high h out = record {
     within = let a = p.within in let b = out.within in omega arith;

@@ -39,7 +39,8 @@ Term pair t = t ≡ pair / weight_limit
 abbrev pub Weight : ℕ → ℕ → Type 0
 Weight pair u = Clamped 1 (weight_limit - 1) (pair % weight_limit) u
 
-pub weight_range : (qs : List Pair) → AllFit weight_width qs → positive qs ≡ true → (i : ℕ) → i < length qs → (1 ≤ weight_at qs i) × (weight_at qs i < weight_limit)
+pub weight_range : (qs : List Pair) → AllFit weight_width qs → positive qs ≡ true → (i : ℕ) → i < length qs
+    → (1 ≤ weight_at qs i) × (weight_at qs i < weight_limit)
 unfolding positive weight_at
 weight_range [] a e i h = absurd (not-suc-le-zero h)
 weight_range (q ∷ qs) a e zero h = (ltb-true 0 q.amount (and_true (ltb 0 q.amount) (positive qs) e).0, a.1)
@@ -117,7 +118,8 @@ module _ (w : List ℕ) (q : ℕ) (r : Query) (k : Clamped 0 most_listed (get_or
 abbrev pub Threshold : ℕ → ℕ → Type 0
 Threshold = Clamped 0 top
 
-pub loaded_thresholds : (w : List ℕ) (q : ℕ) {hs : List ℕ} → thresholds_in q + 8 ≤ length w → Filled Threshold 8 (take 8 (drop (thresholds_in q) w)) hs → LoadedThresholds w q hs
+pub loaded_thresholds : (w : List ℕ) (q : ℕ) {hs : List ℕ} → thresholds_in q + 8 ≤ length w → Filled Threshold 8 (take 8 (drop (thresholds_in q) w)) hs
+    → LoadedThresholds w q hs
 loaded_thresholds w q {hs} h f = record { in_scale = in_scale; is = is }
   where
     in_scale : (i : ℕ) → get_or hs i 0 ≤ top

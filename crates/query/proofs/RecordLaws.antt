@@ -44,7 +44,8 @@ cells_same w w' qs hs o n j same = go (in_ring o n j) same
 -- ---- words that are left alone
 
 -- the query stands before what is kept of it
-says_by : (w w' : List ℕ) {q : ℕ} {query : Query} → ((i : ℕ) → record_at q ≤ i → i < listed_in q → get_or w' i 0 ≡ get_or w i 0) → Says w q query → Says w' q query
+says_by : (w w' : List ℕ) {q : ℕ} {query : Query} → ((i : ℕ) → record_at q ≤ i → i < listed_in q → get_or w' i 0 ≡ get_or w i 0)
+    → Says w q query → Says w' q query
 says_by w w' {q} same s = record {
   k = same (record_at q) (omega arith) (omega arith) ∙ s.k;
   size = same (size_in q) (omega arith) (omega arith) ∙ s.size;
@@ -139,7 +140,8 @@ module _ (w w' : List ℕ) (q : ℕ) (long : length w' ≡ length w) (record_is 
   held_at = held_at_same w
 
   module _ (o n : ℕ) (first : o < slots) (same : (j : ℕ) → j < slots → in_ring o n j ≡ true → slot w' j ≡ slot w j) where
-    pub holds_at_same : (ms : Query → List Message) (x : Option Query) → ((query : Query) → x ≡ some query → Terms query) → HoldsAt w q o n ms x → HoldsAt w' q o n ms x
+    pub holds_at_same : (ms : Query → List Message) (x : Option Query) → ((query : Query) → x ≡ some query → Terms query) → HoldsAt w q o n ms x
+        → HoldsAt w' q o n ms x
     holds_at_same ms none t h = λ i l. record_is i l ∙ h i l
     holds_at_same ms (some query) t h = seen_same w w' o n first same (held_same (t query refl) h)
 

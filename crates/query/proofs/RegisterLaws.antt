@@ -84,7 +84,8 @@ packed_all {n} {ts} {us} {ps} {i} h ht hu f j most = go (ltb j n) refl
 -- the length of the list and the number of terms were written before
 module _ (s₀ s₁ : List ℕ) {s₂ : List ℕ} (q k n : ℕ) (whole : length s₀ ≡ state_length) (number : q < numbers) (fk : k < 4294967296) (most : n ≤ most_terms)
     (p : s₁ ≡ put_word s₀ (record_at q) k) (r : s₂ ≡ put_word s₁ (size_in q) n) where
-  pub query_put : (ts us : List ℕ) {ps w : List ℕ} → n ≤ length ts → n ≤ length us → Packed (side_by_side n ts us) ps → Stored (pairs_in q) most_terms ps (words s₂) w
+  pub query_put : (ts us : List ℕ) {ps w : List ℕ} → n ≤ length ts → n ≤ length us → Packed (side_by_side n ts us) ps
+      → Stored (pairs_in q) most_terms ps (words s₂) w
       → PutQuery q (record { k = k; terms = side_by_side n ts us }) (words s₀) w
   query_put ts us {ps} {w} ht hu packed stored =
       let l : length s₁ ≡ length s₀ = ap length p ∙ put_length s₀ (record_at q) k in
@@ -109,7 +110,8 @@ module _ (s₀ s₁ : List ℕ) {s₂ : List ℕ} (q k n : ℕ) (whole : length 
 
 -- ---- and settled
 
-pub registered : {q o n : ℕ} {query : Rank.Query} {r : Query} {w w₁ w₂ : List ℕ} → o < slots → PutQuery q query w w₁ → LoadedQuery w₁ q r → Refilled w₁ q o n r w₂
+pub registered : {q o n : ℕ} {query : Rank.Query} {r : Query} {w w₁ w₂ : List ℕ} → o < slots → PutQuery q query w w₁ → LoadedQuery w₁ q r
+    → Refilled w₁ q o n r w₂
     → Registered w q o n query w₂
 registered {q} {o} {n} {query} ho put loaded refilled = record {
   keeps = keeps_trans (keeps_wider (omega arith) (omega arith) put.keeps) (keeps_wider (omega arith) (omega arith) refilled.keeps);

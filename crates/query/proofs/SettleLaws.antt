@@ -261,7 +261,8 @@ having_picked {w} {r} {js} {xs} e = record {
 -- of the messages looked at, which are those flagged that have one of the terms, those that exceed them
 module _ {w : List ℕ} {q o n : ℕ} {fs : List ℕ} {r : Query} {hs hs' : List ℕ} {l : Ranked} (range : InRange r) (long : Sixteen l) (eight : length hs ≡ 8)
     (eight' : length hs' ≡ 8) (lifted : Lifted r hs l hs') {ms : List Message} {query : Rank.Query} (ready : Ready w q o n ms query fs r hs l)
-    (ho : o < slots) {js rows kept-fs : List ℕ} (picked : Having w r (select (flag_of fs) (ring o n)) js) (looked : Rows w js r rows) (sifted : SiftedRows js r rows hs' kept-fs) where
+    (ho : o < slots) {js rows kept-fs : List ℕ} (picked : Having w r (select (flag_of fs) (ring o n)) js) (looked : Rows w js r rows)
+    (sifted : SiftedRows js r rows hs' kept-fs) where
   pub sifted_exact : Exact w o n kept-fs query.terms (take r.n hs')
   sifted_exact j = go (in_ring o n j) (flag_of fs j) refl refl
     where
@@ -273,7 +274,8 @@ module _ {w : List ℕ} {q o n : ℕ} {fs : List ℕ} {r : Query} {hs hs' : List
           (t.1, (in_ring_lem o n j ho p.0).1, p.1)
 
       -- one that is flagged: whoever failed the test has none of the terms
-      tested : (b : Bool) → picked.test j ≡ b → in_ring o n j ≡ true → flag_of fs j ≡ true → flag_of kept-fs j ≡ exceeds_cells (terms_of r) (take r.n hs') (slot w j).cells
+      tested : (b : Bool) → picked.test j ≡ b → in_ring o n j ≡ true → flag_of fs j ≡ true
+          → flag_of kept-fs j ≡ exceeds_cells (terms_of r) (take r.n hs') (slot w j).cells
       tested true e i t =
           sifted.right w looked ready.is.rising ready.is.known j
           (subst (In j) (sym picked.kept)
@@ -317,7 +319,8 @@ listed_is {r} {query} w js ms is e v =
     ∙ ap (grows query.k []) (sym (map-map (scored query.terms) (slot w) js) ∙ ap (map (scored query.terms)) e)
     ∙ ranking_stored query ms v
 
-module _ {w : List ℕ} {q o n : ℕ} {fs : List ℕ} {r : Query} {l : Ranked} {js rows : List ℕ} (hs : List ℕ) (picked : Having w r (select (flag_of fs) (ring o n)) js) (looked : Rows w js r rows)
+module _ {w : List ℕ} {q o n : ℕ} {fs : List ℕ} {r : Query} {l : Ranked} {js rows : List ℕ} (hs : List ℕ)
+    (picked : Having w r (select (flag_of fs) (ring o n)) js) (looked : Rows w js r rows)
     (by : RankedRows w js r rows l) (eight : length hs ≡ 8) (range : InRange r) (long : Sixteen l) (sure : secure r hs l ≡ true)
     {ms : List Message} {query : Rank.Query} (over : Over w o n ms) (terms : Terms query) (says : Says w q query) (is : Is r query)
     (unused : (i : ℕ) → r.n ≤ i → get_or hs i 0 ≡ 0) (shown : Shown w o n fs ms query.terms (take r.n hs))

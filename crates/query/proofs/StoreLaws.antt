@@ -22,7 +22,8 @@ then : {i n b e : ℕ} {a s t u : List ℕ} → i + n ≤ b → b ≤ e → Stor
 then {i} {n} h k p r =
     (keeps_trans (keeps_wider (omega arith) (omega arith) p.keeps) (keeps_wider (omega arith) (omega arith) r), keeps_part r i n (inl h) ∙ p.reads)
 
-module _ (q : ℕ) (list : Ranked) {hs fs : List ℕ} (s t : List ℕ) {w₂ w₃ w₄ w₅ : List ℕ} (long : length s ≡ state_length) (number : q < numbers) (most : list.count ≤ most_listed)
+module _ (q : ℕ) (list : Ranked) {hs fs : List ℕ} (s t : List ℕ) {w₂ w₃ w₄ w₅ : List ℕ} (long : length s ≡ state_length) (number : q < numbers)
+    (most : list.count ≤ most_listed)
     (put : t ≡ put_word s (listed_in q) list.count) (eight : Stored (thresholds_in q) 8 hs (words t) w₂)
     (serials : Stored (serials_in q) most_listed list.serials w₂ w₃) (keys : Stored (keys_in q) most_listed list.keys w₃ w₄)
     (nine : Stored (flags_in q) 9 fs w₄ w₅) where
@@ -37,7 +38,10 @@ module _ (q : ℕ) (list : Ranked) {hs fs : List ℕ} (s t : List ℕ) {w₂ w�
       let r = then (omega arith) (omega arith) serials c.0 in
       let h = then (omega arith) (omega arith) eight r.0 in
       record {
-        keeps = keeps_trans (rw one (keeps_wider (omega arith) (omega arith) (keeps_set (words s) (listed_in q) list.count))) (keeps_wider (omega arith) (omega arith) h.0);
+        keeps =
+            keeps_trans
+            (rw one (keeps_wider (omega arith) (omega arith) (keeps_set (words s) (listed_in q) list.count)))
+            (keeps_wider (omega arith) (omega arith) h.0);
         count = keeps_at h.0 (listed_in q) (inl (omega arith)) ∙ rw one (get_or-set_same (words s) (listed_in q) list.count 0 (omega arith));
         thresholds = h.1;
         serials = r.1;

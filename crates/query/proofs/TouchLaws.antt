@@ -30,8 +30,10 @@ most = weight_limit * 65536
 pub product_most : (pair : ℕ) {v : ℕ} → v < 65536 → pair % 16 * v ≤ most
 product_most pair small = mul-le-mul {n₂ = weight_limit} {m₂ = 65536} (omega arith) (omega arith)
 
-module _ (w : List ℕ) (q : ℕ) (table : List ℕ) (i : ℕ) {pair v : ℕ} (read : pair ≡ get_or w (pairs_in q + i) 0) (given : v ≡ entry_of table (pair / 16 % 1024)) where
-  pub above_turn : {b more : Bool} {h : ℕ} → h ≡ get_or w (thresholds_in q + i) 0 → b ≡ found_above w q table i → more ≡ (b || ltb h v) → more ≡ found_above w q table (i + 1)
+module _ (w : List ℕ) (q : ℕ) (table : List ℕ) (i : ℕ) {pair v : ℕ} (read : pair ≡ get_or w (pairs_in q + i) 0)
+    (given : v ≡ entry_of table (pair / 16 % 1024)) where
+  pub above_turn : {b more : Bool} {h : ℕ} → h ≡ get_or w (thresholds_in q + i) 0 → b ≡ found_above w q table i → more ≡ (b || ltb h v)
+      → more ≡ found_above w q table (i + 1)
   unfolding found_above
   above_turn e before turn = rw add-one (rw (before, e, given, read) at turn)
 

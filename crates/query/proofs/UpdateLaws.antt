@@ -41,7 +41,8 @@ module _ {w : List ℕ} {q : ℕ} {m : Move} {coming going : List ℕ} {touch : 
     }
 
     -- no message scores enough to change the list
-    pub stands : {t : Bool} → t ≡ (leb (least / key_factor) touch.came || leb (least / key_factor) touch.went) → t ≡ false → KeptList w q fs w' → Updated w q m coming going true w'
+    pub stands : {t : Bool} → t ≡ (leb (least / key_factor) touch.came || leb (least / key_factor) touch.went) → t ≡ false → KeptList w q fs w'
+        → Updated w q m coming going true w'
     stands low none kept = record {
       keeps = keeps_wider (omega arith) (omega arith) kept.keeps;
       untouched = λ z. absurd (true≢false z);
@@ -49,6 +50,7 @@ module _ {w : List ℕ} {q : ℕ} {m : Move} {coming going : List ℕ} {touch : 
           let p = or_false (leb (least / key_factor) touch.came) (leb (least / key_factor) touch.went) (sym low ∙ none) in (
             sym e ∙ test ∙ answered touched tables change terms held,
             still_holds change terms held (least-is.is query terms held.says held.listed_most)
-                (told touched tables change terms held flags_are) (leb-false (least / key_factor) touch.came p.0) (leb-false (least / key_factor) touch.went p.1) kept,
+                (told touched tables change terms held flags_are) (leb-false (least / key_factor) touch.came p.0)
+                (leb-false (least / key_factor) touch.went p.1) kept,
           );
     }

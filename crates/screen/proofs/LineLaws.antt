@@ -33,7 +33,9 @@ bytes_length (p ∷ ps) = let ih = bytes_length ps in omega arith
 bytes_append : (ps xs : List ScreenLine) → screen_bytes (ps ++ xs) ≡ screen_bytes ps ++ screen_bytes xs
 unfolding screen_bytes
 bytes_append [] xs = refl
-bytes_append (p ∷ ps) xs = ap (λ (s : List ℕ). screen_line_bytes p ++ s) (bytes_append ps xs) ∙ sym (append_assoc (screen_line_bytes p) (screen_bytes ps) (screen_bytes xs))
+bytes_append (p ∷ ps) xs =
+    ap (λ (s : List ℕ). screen_line_bytes p ++ s) (bytes_append ps xs)
+    ∙ sym (append_assoc (screen_line_bytes p) (screen_bytes ps) (screen_bytes xs))
 
 pub lines_length : (ps : List ScreenLine) (out : List ℕ) → screen_line_length * length ps ≤ length out → length (lines_into ps out) ≡ length out
 lines_length ps out h = simp (length-append, length-drop) (omega (arith, bytes_length ps))

@@ -49,7 +49,8 @@ module _ {w : List ℕ} {i n : ℕ} {qs out₀ out : List ℕ} {j : ℕ} (l : le
   abbrev size : ℕ
   size = at + screen_line_length - at
 
-  pub writing_more : {q s c : ℕ} {part : List ℕ} → q ≡ get_or qs j 0 → line_with s c ≡ listed_at w q i → part ≡ screen_line_bytes (record { number = q; entry = line_with s c })
+  pub writing_more : {q s c : ℕ} {part : List ℕ} → q ≡ get_or qs j 0 → line_with s c ≡ listed_at w q i
+      → part ≡ screen_line_bytes (record { number = q; entry = line_with s c })
       → WritingRound w i n qs out₀ (put_mid at size out part) (j + 1)
   unfolding screen_bytes big_bytes
   writing_more {q} {s} {c} {part} is entry bytes =
@@ -145,8 +146,9 @@ sharing_none {B = B} {ns = ns} x z y k =
     rw (x, z, y)
     (record { known = all_known k; most = omega arith; rounds = omega arith; long = refl; done = []; written = refl; lines = refl; rest = rw (e, all) })
 
-module _ {w : List ℕ} {B : ℕ} {out₀ out : List ℕ} {ns ns' : List ℕ} {count count' placed i n : ℕ} (room : screen_line_length * B ≤ length out₀) (h : i < most_listed)
-    (left : StillWaiting w i ns count ns' count') (is : n ≡ min count' (B - placed)) (p : Sharing w B out₀ out ns count placed i) where
+module _ {w : List ℕ} {B : ℕ} {out₀ out : List ℕ} {ns ns' : List ℕ} {count count' placed i n : ℕ} (room : screen_line_length * B ≤ length out₀)
+    (h : i < most_listed) (left : StillWaiting w i ns count ns' count') (is : n ≡ min count' (B - placed))
+    (p : Sharing w B out₀ out ns count placed i) where
   -- each of those that are left waits
   waiting : (q : ℕ) → In q (take count' ns') → waits w i q ≡ true
   waiting q m = (select_in (waits w i) q (take count ns) (subst (In q) left.right m)).1
@@ -191,7 +193,8 @@ module _ {w : List ℕ} {B : ℕ} {out₀ out : List ℕ} {ns ns' : List ℕ} {c
   abbrev free : ℕ
   free = length out - end
 
-  pub sharing_more : {part : List ℕ} → part ≡ lines_into lines (take free (drop end out)) → Sharing w B out₀ (put_mid end free out part) ns' count' (placed + n) (i + 1)
+  pub sharing_more : {part : List ℕ} → part ≡ lines_into lines (take free (drop end out))
+      → Sharing w B out₀ (put_mid end free out part) ns' count' (placed + n) (i + 1)
   sharing_more {part} bytes =
       let before = p.written in
       let written : put_mid end free out part ≡ lines_into (p.done ++ lines) out₀ =

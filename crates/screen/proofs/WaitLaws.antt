@@ -61,9 +61,12 @@ pub record Choosing (w : List ℕ) (i count : ℕ) (ns a : List ℕ) (n j : ℕ)
 
 pub choosing_none : {w : List ℕ} {i count : ℕ} {ns : List ℕ} {n j : ℕ} → n ≡ 0 → j ≡ 0 → length ns ≡ numbers → Choosing w i count ns ns n j
 unfolding select
-choosing_none z y l = rw (z, y) (record { bound = omega arith; few = omega arith; long = l; below = λ k h. absurd (omega arith); later = λ k h. refl; right = refl })
+choosing_none z y l =
+    rw (z, y)
+    (record { bound = omega arith; few = omega arith; long = l; below = λ k h. absurd (omega arith); later = λ k h. refl; right = refl })
 
-module _ {w : List ℕ} {i count : ℕ} {ns a : List ℕ} {n j q : ℕ} (known : QueryNumbers ns count) (h : j < count) (is : q ≡ get_or a j 0) (p : Choosing w i count ns a n j) where
+module _ {w : List ℕ} {i count : ℕ} {ns a : List ℕ} {n j q : ℕ} (known : QueryNumbers ns count) (h : j < count) (is : q ≡ get_or a j 0)
+    (p : Choosing w i count ns a n j) where
   number : q ≡ get_or ns j 0
   number = is ∙ p.later j (omega arith)
 
@@ -104,7 +107,8 @@ module _ {w : List ℕ} {i count : ℕ} {ns a : List ℕ} {n j q : ℕ} (known :
     right = p.right ∙ sym (one_more ∙ rw (le-ltb i (length (keys w q)) none) (append-nil (select (waits w i) (take j ns))));
   }
 
-pub choosing_all : {w : List ℕ} {i count : ℕ} {ns a : List ℕ} {n j : ℕ} → count ≤ numbers → count ≤ j → Choosing w i count ns a n j → StillWaiting w i ns count a n
+pub choosing_all : {w : List ℕ} {i count : ℕ} {ns a : List ℕ} {n j : ℕ} → count ≤ numbers → count ≤ j → Choosing w i count ns a n j
+    → StillWaiting w i ns count a n
 choosing_all {w} {i} {count} {ns} {a} {n} {j} most h p =
     let e : j ≡ count = omega (arith, p.bound) in
     record {

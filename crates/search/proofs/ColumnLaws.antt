@@ -37,8 +37,8 @@ module _ (xs ys rest : List ℕ) (a : ℕ) (h : a ≤ length xs) where
       ∙ ap (λ (x : List ℕ). get_or x i 0) (take-append_seam ys rest)
 
 -- one column more, of as many places as the part that was lent
-module _ (rows : List ℕ) (m p : ℕ) (cols ys : List ℕ) {k n : ℕ} (few : m ≤ slots) (inside : p < most_terms) (c : Columns rows m p cols) (lent : k ≡ m) (size : n ≡ m)
-    (y : Column rows n p ys) where
+module _ (rows : List ℕ) (m p : ℕ) (cols ys : List ℕ) {k n : ℕ} (few : m ≤ slots) (inside : p < most_terms) (c : Columns rows m p cols)
+    (lent : k ≡ m) (size : n ≡ m) (y : Column rows n p ys) where
   abbrev start : ℕ
   start = slots * p
 
@@ -73,7 +73,8 @@ module _ (cols : List ℕ) (m p : ℕ) where
 -- ---- one impact more
 
 module _ (xs : List ℕ) (i c : ℕ) (l : i < length xs) where
-  pub up_to_turn : {best best' v : ℕ} → best ≡ up_to c (take i xs) → v ≡ cond (leb (get_or xs i 0) c) (get_or xs i 0) 0 → best' ≡ max best v → best' ≡ up_to c (take (i + 1) xs)
+  pub up_to_turn : {best best' v : ℕ} → best ≡ up_to c (take i xs) → v ≡ cond (leb (get_or xs i 0) c) (get_or xs i 0) 0 → best' ≡ max best v
+      → best' ≡ up_to c (take (i + 1) xs)
   unfolding up_to
   up_to_turn e f g = rw (add-one i, take-suc xs i 0 l) (omega (arith, e, f, g, up_to_append c (take i xs) (get_or xs i 0 ∷ [])))
 

@@ -181,7 +181,8 @@ held_impacts w js ms t v e =
     stored_impacts (m ∷ ms) v = rw (lookup_cells m.pairs v.1 t, stored_impacts ms v.2)
 
 -- as many slots are picked as are said to be
-pub picked_size : {w : List ℕ} {r : Query} {first count : ℕ} {picked : List ℕ} {m : ℕ} → Gathered w r first count picked m → m ≤ slots → length (take m picked) ≡ m
+pub picked_size : {w : List ℕ} {r : Query} {first count : ℕ} {picked : List ℕ} {m : ℕ} → Gathered w r first count picked m → m ≤ slots
+    → length (take m picked) ≡ m
 picked_size {picked = picked} {m = m} g l = length-take-le m picked (omega (arith, g.long))
 
 -- ---- the query's terms and weights
@@ -229,7 +230,8 @@ module _ (ms : List Message) where
 -- ---- the search of the window
 
 module _ {w rows js : List ℕ} {first count : ℕ} {r : Query} {list : Ranked} (picked : Having w r (ring first count) js) (looked : Rows w js r rows)
-    (by : RankedRows w js r rows list) {ms : List Message} {q : Rank.Query} (over : Over w first count ms) (distinct : Distinct ms) (terms : Terms q) (is : Is r q) where
+    (by : RankedRows w js r rows list) {ms : List Message} {q : Rank.Query} (over : Over w first count ms) (distinct : Distinct ms)
+    (terms : Terms q) (is : Is r q) where
   listed : keyed_of list ≡ keyed (ranking q ms)
   listed =
       by.right looked is.rising is.known

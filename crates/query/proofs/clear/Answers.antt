@@ -1,5 +1,4 @@
 -- `clear` meets its contract. Assumes nothing.
-use Prim.Native.Nat.{◌-◌}
 use native.Mathlib.Omega.{arith}
 use Rattle.memory.proofs.ArrayLaws.{storing_none, storing_all}
 use Rattle.query.proofs.StoreLaws.{zeros_length, zeros_more, cleared}

@@ -1,5 +1,4 @@
 -- `load_thresholds` meets its contract. Assumes nothing.
-use Prim.Native.Nat.{◌-◌}
 use native.Mathlib.Omega.{arith}
 use Rattle.query.proofs.FillLaws.{filled_none, filled_more, filled_all}
 use Rattle.query.proofs.QueryLaws.{loaded_thresholds}

@@ -1,22 +1,13 @@
 -- `with_entry` meets its contract. Assumes nothing.
-use Prim.Native.Nat.{◌-◌}
 use native.Mathlib.Omega.{arith}
 use mathlib.Core.Path.{refl}
 use borrow.Author.Rules.{rules}
-use Rattle.screen.proofs.WaitLaws.{choosing_none, number_below, choosing_kept, choosing_passed, choosing_all}
+use Rattle.screen.proofs.WaitLaws.{choosing_none, choosing_kept, choosing_passed}
 use Rattle.screen.proofs.with_entry.Goals as goal
 use Rattle.screen.proofs.with_entry.Goals.{then-i-listed, else-i-listed}
 
 pub loop-j-init : goal.loop-j-init
 loop-j-init c = choosing_none (omega arith) (omega arith) (search rules)
-
-pub overflow_cast-q : goal.overflow_cast-q
-overflow_cast-q c = omega arith
-
-pub listed-requires : goal.listed-requires
-listed-requires c =
-    let pre = c.requires in
-    (pre.0, number_below pre.1 (omega arith) refl c.loop-j.invariant)
 
 pub loop-j-preserved : goal.loop-j-preserved
 loop-j-preserved c =
@@ -26,6 +17,3 @@ loop-j-preserved c =
       then-i-listed w ↦ rw (w.queries-is, w.n-is) (choosing_kept known (omega arith) refl c.loop-j.invariant (omega arith))
     | else-i-listed w ↦ rw (w.queries-is, w.n-is) (choosing_passed known (omega arith) refl c.loop-j.invariant (omega arith))
     ]
-
-pub returns : goal.returns
-returns c = choosing_all c.requires.1.most (omega arith) c.loop-j.invariant

@@ -1,5 +1,4 @@
 -- `end_cut` meets its contract. Assumes nothing.
-use Prim.Native.Nat.{◌-◌}
 use native.Mathlib.Omega.{arith}
 use Rattle.search.specs.Post.{column}
 use Rattle.search.proofs.SumLaws.{sum_none, sum_rises}

@@ -12,6 +12,10 @@ pub returns : goal.returns
 returns c =
     let a = c.args in
     record {
-      full = λ _. (c.end_cut-end.result, subst (λ (v : ℕ). EndsAt a.columns.now a.m a.query v c.end_cut-end.result) c.last_score.ensures c.end_cut-end.ensures, c.read_at-2.ensures);
+      full = λ _. (
+        c.end_cut-end.result,
+        subst (λ (v : ℕ). EndsAt a.columns.now a.m a.query v c.end_cut-end.result) c.last_score.ensures c.end_cut-end.ensures,
+        c.read_at-2.ensures,
+      );
       short = λ n. absurd (n (omega arith));
     }

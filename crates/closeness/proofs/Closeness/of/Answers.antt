@@ -10,15 +10,6 @@ use Rattle.rank.proofs.SumLaws.{sum_most}
 use Rattle.closeness.proofs.CloseLaws.{compared}
 use Rattle.closeness.proofs.Closeness.of.Goals as goal
 
-pub weighted-shared-requires : goal.weighted-shared-requires
-weighted-shared-requires c =
-    let counts_below : Below c.args.query.n (2 ^ count_width) c.counts_in-counts.result =
-    λ i h. omega (arith, c.counts_in-counts.ensures i h) in
-    (search rules, c.requires.3, λ i h. omega (arith, counts_below i h))
-
-pub weighted-requires : goal.weighted-requires
-weighted-requires c = (search rules, c.requires.3, λ i h. omega (arith, c.requires.3 i h))
-
 pub divided-requires : goal.divided-requires
 divided-requires c =
     let counts_below : Below c.args.query.n (2 ^ count_width) c.counts_in-counts.result =
