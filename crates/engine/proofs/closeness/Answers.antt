@@ -20,12 +20,11 @@ returns-then-j-ge-SLOTS c =
     (closeness_unknown _ _ _ (omega arith) (omega arith) c.load-cursor.ensures c.slot_of-j.ensures _ (omega arith) c.uncompared-then-j-ge-SLOTS.ensures, refl)
 
 pub returns-then-not-used : goal.returns-then-not-used
-returns-then-not-used c =
-    (
-      closeness_unused _ _ _ (omega arith) (omega arith) c.load-cursor.ensures c.slot_of-j.ensures (omega arith) c.registered-used.ensures _
-          (not-true _ c.if-not-used.true) c.uncompared-then-not-used.ensures,
-      refl,
-    )
+returns-then-not-used c = (
+  closeness_unused _ _ _ (omega arith) (omega arith) c.load-cursor.ensures c.slot_of-j.ensures (omega arith) c.registered-used.ensures _
+      (not-true _ c.if-not-used.true) c.uncompared-then-not-used.ensures,
+  refl,
+)
 
 pub load_query-query-requires : goal.load_query-query-requires
 load_query-query-requires c =
@@ -40,9 +39,8 @@ of-close-requires c =
     (omega arith, omega arith, range.n_most, λ i h. range.weights_most i (omega (arith, range.n_most)))
 
 pub returns : goal.returns
-returns c =
-    (
-      closeness_right _ _ _ (omega arith) (omega arith) c.load-cursor.ensures c.slot_of-j.ensures (omega arith) c.registered-used.ensures
-          (not-false _ c.if-not-used.false) c.load_query-query.ensures c.of-close.ensures,
-      refl,
-    )
+returns c = (
+  closeness_right _ _ _ (omega arith) (omega arith) c.load-cursor.ensures c.slot_of-j.ensures (omega arith) c.registered-used.ensures
+      (not-false _ c.if-not-used.false) c.load_query-query.ensures c.of-close.ensures,
+  refl,
+)

@@ -12,8 +12,7 @@ pub returns-then-has_serial : goal.returns-then-has_serial
 returns-then-has_serial c = λ g e. search known
 
 pub join-requires : goal.join-requires
-join-requires c =
-    (
+join-requires c = (
   (search rules, c.requires.0.1, c.requires.1.0.1),
   (
     search rules,

@@ -35,8 +35,7 @@ returns c =
     let part_long : length (take list_answer c.put_big.new.0) ≡ list_answer =
     length-take-le list_answer c.put_big.new.0 (omega (arith, ap length c.put_big.ensures ∙ put_big_length _ _ _)) in
     let serials_long : length c.search-searched.result.list.serials ≡ most_listed = search rules in
-    let scores_long : length c.search-searched.result.list.scores ≡ most_listed = search rules in
-    (
+    let scores_long : length c.search-searched.result.list.scores ≡ most_listed = search rules in (
       search_accepted c.put_list.new.0 _ c.put_big.new.0 c.search-searched.result (omega arith) (search rules) c.put_big.ensures
           (omega (arith, part_long)) serials_long scores_long c.put_list.ensures (omega arith) c.search-searched.ensures.0,
       refl,
