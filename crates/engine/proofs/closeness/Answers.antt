@@ -2,7 +2,6 @@
 use Prim.Native.Nat.{◌<◌}
 use native.Mathlib.Omega.{arith}
 use mathlib.Core.Path.{refl, sym, ◌∙◌}
-use borrow.Author.Tests.{not-true, not-false}
 use Rattle.paper.specs.Frame.{numbers}
 use Rattle.memory.specs.Words.{words}
 use Rattle.engine.proofs.RepresentsLaws.{registered_below}
@@ -22,7 +21,7 @@ returns-then-j-ge-SLOTS c =
 pub returns-then-not-used : goal.returns-then-not-used
 returns-then-not-used c = (
   closeness_unused _ _ _ (omega arith) (omega arith) c.load-cursor.ensures c.slot_of-j.ensures (omega arith) c.registered-used.ensures _
-      (not-true _ c.if-not-used.true) c.uncompared-then-not-used.ensures,
+      c.if-not-used.true c.uncompared-then-not-used.ensures,
   refl,
 )
 
@@ -30,7 +29,7 @@ pub load_query-query-requires : goal.load_query-query-requires
 load_query-query-requires c =
     let below : c.args.number < numbers =
     let a = c.args in
-    registered_below (words a.state.now) a.number (sym c.registered-used.ensures ∙ not-false _ c.if-not-used.false) in
+    registered_below (words a.state.now) a.number (sym c.registered-used.ensures ∙ c.if-not-used.false) in
     (omega arith, below)
 
 pub of-close-requires : goal.of-close-requires
@@ -41,6 +40,6 @@ of-close-requires c =
 pub returns : goal.returns
 returns c = (
   closeness_right _ _ _ (omega arith) (omega arith) c.load-cursor.ensures c.slot_of-j.ensures (omega arith) c.registered-used.ensures
-      (not-false _ c.if-not-used.false) c.load_query-query.ensures c.of-close.ensures,
+      c.if-not-used.false c.load_query-query.ensures c.of-close.ensures,
   refl,
 )
