@@ -7,16 +7,6 @@ use Rattle.query.specs.Post.{Lifted}
 use Rattle.query.proofs.SettleLaws.{Sixteen, same_arrays, finished}
 use Rattle.query.proofs.retune.Goals as goal
 
-pub raised-next-requires : goal.raised-next-requires
-raised-next-requires c = record { in_range = c.requires.in_range; count_le_most_listed = c.requires.count_le_most_listed }
-
-pub sift-requires : goal.sift-requires
-sift-requires c = record {
-  state_len = search rules;
-  in_range = c.requires.in_range;
-  count_le_most_listed = c.requires.count_le_most_listed.0;
-}
-
 pub returns-then-same : goal.returns-then-same
 returns-then-same c =
     let sixteen : Sixteen c.args.list =
