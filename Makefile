@@ -1,17 +1,16 @@
 # The commands of README.md; each does everything it needs on a fresh machine.
 
 PREFIX = /usr/local
-archive = target/staticlib/libfennelrake.a
+archive = crates/fennelrake/out/libfennelrake.a
 # the folders too: a file that has gone leaves its folder newer
 sources = crates.txt $(shell find crates/*/src crates/*/specs crates/*/proofs)
 
 .PHONY: sample test install
 
-# The worked passage, written as text, handed to the session program as bytes.
+# The worked passage, written as text, handed to the session program as bytes: rt run proves and builds it, says so on standard error, and runs it.
 sample:
-	@rt check session >&2
 	@cd tools/passage && cargo build --release --quiet
-	@tools/passage/target/release/passage < samples/c10.txt | target/bin/session
+	@tools/passage/target/release/passage < samples/c10.txt | (cd crates/session && rt run)
 
 test:
 	bash tests/all
@@ -27,4 +26,4 @@ install: $(archive)
 
 # Made where it isn't there, and made again where a source of the crates is newer, has come or has gone.
 $(archive): $(sources)
-	rt staticlib fennelrake
+	cd crates/fennelrake && rt lib

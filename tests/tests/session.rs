@@ -11,9 +11,9 @@ use std::sync::mpsc;
 use std::time::{Duration, Instant};
 
 fn spawn() -> Child {
-    let program = PathBuf::from(env!("CARGO_MANIFEST_DIR")).join("../target/bin/session");
-    assert!(program.is_file(), "target/bin/session isn't there: `rt check session` makes it");
-    Command::new(program).stdin(Stdio::piped()).stdout(Stdio::piped()).stderr(Stdio::piped()).spawn().expect("target/bin/session can't be run")
+    let program = PathBuf::from(env!("CARGO_MANIFEST_DIR")).join("../crates/session/out/session");
+    assert!(program.is_file(), "crates/session/out/session isn't there: `make sample` makes it");
+    Command::new(program).stdin(Stdio::piped()).stdout(Stdio::piped()).stderr(Stdio::piped()).spawn().expect("crates/session/out/session can't be run")
 }
 
 /// All that a session prints for an input. Its status must be 0.

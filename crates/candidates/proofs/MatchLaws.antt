@@ -89,7 +89,8 @@ score_alone qs m v =
     score_agree (λ t. greatest t (map stored (m ∷ []))) (impact_in m.pairs) qs (λ p i. omega (arith, highest_stored m v.1 p.term))
 
 -- messages put into a list one after the other are ranked: from the ranking of earlier ones on, and from nothing
-grows_on : (q : Query) (xs ms : List Message) → grows q.k (keyed (ranking q xs)) (map (λ m. keyed_entry (entry (score q.terms) m)) ms) ≡ keyed (ranking q (xs ++ ms))
+grows_on : (q : Query) (xs ms : List Message)
+    → grows q.k (keyed (ranking q xs)) (map (λ m. keyed_entry (entry (score q.terms) m)) ms) ≡ keyed (ranking q (xs ++ ms))
 unfolding grows
 grows_on q xs [] = ap (λ (l : List Message). keyed (ranking q l)) (sym (append-nil xs))
 grows_on q xs (m ∷ ms) =

@@ -1,5 +1,5 @@
 -- Slots picked, the table of places, and rows of impacts: one law for each way that a turn goes. Assumes nothing.
-use Prim.Native.Nat.{ℕ, zero, suc, ◌+◌, ◌-◌, ◌*◌, ◌%◌, ◌≤◌, ◌<◌, suc-le-suc}
+use Prim.Native.Nat.{ℕ, zero, suc, ◌+◌, ◌-◌, ◌*◌, ◌≤◌, ◌<◌, suc-le-suc}
 use native.Mathlib.Nat.{mul-zero, add-zero, not-suc-le-zero, eq-or-lt_of_le, le_of_suc-le-suc}
 use native.Mathlib.Numerals.{add-one}
 use native.Mathlib.Omega.{arith}
@@ -11,7 +11,7 @@ use lib.ListN.{length, get_or, set, take, drop, length-set, drop_of_length-le}
 use lib.Seq.{get_or-set_same, get_or-set_other, get_or-take, take-set-le, take-suc-set, drop-cons, append_snoc, length-take-le}
 use lib.Dec.{eqb, ltb}
 use borrow.Author.Count.{below_more}
-use borrow.Author.Tests.{eqb-true, eqb-false, eq-eqb, ne_eqb, lt-leb, le-ltb, lt-ltb}
+use borrow.Author.Tests.{eqb-true, eqb-false, ne_eqb, lt-leb, le-ltb, lt-ltb}
 use Rattle.paper.specs.Frame.{most_terms}
 use Rattle.paper.specs.Layout.{slots}
 use Rattle.paper.specs.Order.{In}
@@ -47,9 +47,6 @@ pub record Picking (test : ℕ → Bool) (o count : ℕ) (picked : List ℕ) (m 
   pub long : length picked ≡ slots
   pub below : (i : ℕ) → i < m → get_or picked i 0 < slots
   pub left : take m picked ++ select test (ring j n) ≡ select test (ring o count)
-
-pub picking_none : (test : ℕ → Bool) (o count : ℕ) (picked : List ℕ) → length picked ≡ slots → Picking test o count picked 0 o count
-picking_none test o count picked l = record { within = omega arith; long = l; below = λ i h. absurd (omega arith); left = refl }
 
 module _ (test : ℕ → Bool) (o count : ℕ) (picked : List ℕ) (m j n : ℕ) (some : 0 < n) (before : Picking test o count picked m j n) where
   picking_more : m < slots → j < slots → test j ≡ true → Picking test o count (set picked m j) (m + 1) (next j) (n - 1)
@@ -91,56 +88,6 @@ pub record Placing (n : ℕ) (ts : List ℕ) (i : ℕ) (places : List ℕ) : Typ
   pub low : (t : ℕ) → get_or places t 0 ≤ i
   pub right : RisingTerms n ts → ((p : ℕ) → p < n → get_or ts p 0 < term_limit) → (t p : ℕ) → p < i → eqb (get_or places t 0) (suc p) ≡ eqb t (get_or ts p 0)
 
-pub placing_none : (n : ℕ) (ts places : List ℕ) → length places ≡ term_limit → ((t : ℕ) → get_or places t 0 ≡ 0) → Placing n ts 0 places
-placing_none n ts places l z = record { long = l; low = λ t. omega (arith, z t); right = λ r k t p h. absurd (omega arith) }
-
-pub placing_more : (n : ℕ) (ts places : List ℕ) (i : ℕ) → i < n → Placing n ts i places → Placing n ts (i + 1) (set places (get_or ts i 0 % term_limit) (i + 1))
-placing_more n ts places i more before = record {
-  long = length-set places u (i + 1) ∙ before.long;
-  low = λ t. least t (eqb t u) refl;
-  right = λ r k t p h. let e : u ≡ get_or ts i 0 = omega (arith, k i more) in given r k e t p h (eqb t u) refl;
-}
-  where
-    u : ℕ
-    u = get_or ts i 0 % term_limit
-
-    inside : u < length places
-    inside = omega (arith, before.long)
-
-    same : (t : ℕ) → eqb t u ≡ true → get_or (set places u (i + 1)) t 0 ≡ i + 1
-    same t q = ap (λ (s : ℕ). get_or (set places u (i + 1)) s 0) (eqb-true t u q) ∙ get_or-set_same places u (i + 1) 0 inside
-
-    other : (t : ℕ) → eqb t u ≡ false → get_or (set places u (i + 1)) t 0 ≡ get_or places t 0
-    other t q = get_or-set_other places u t (i + 1) 0 (eqb-false t u q)
-
-    least : (t : ℕ) (b : Bool) → eqb t u ≡ b → get_or (set places u (i + 1)) t 0 ≤ i + 1
-    least t true q = omega (arith, same t q)
-    least t false q = omega (arith, other t q, before.low t)
-
-    -- the term that gets its place
-    this : RisingTerms n ts → u ≡ get_or ts i 0 → (t p : ℕ) → p < i + 1 → t ≡ u → (b : Bool) → eqb p i ≡ b → eqb (i + 1) (suc p) ≡ eqb t (get_or ts p 0)
-    this r e t p h z true q =
-        let s = eqb-true p i q in
-        eq-eqb (i + 1) (suc p) (omega arith) ∙ sym (eq-eqb t (get_or ts p 0) (rw s (z ∙ e)))
-    this r e t p h z false q =
-        let ne = eqb-false p i q in
-        let l = r p i (omega arith) more in
-        ne_eqb (i + 1) (suc p) (omega arith) ∙ sym (ne_eqb t (get_or ts p 0) (λ y. omega arith))
-
-    -- any other
-    that : RisingTerms n ts → ((p : ℕ) → p < n → get_or ts p 0 < term_limit) → u ≡ get_or ts i 0 → (t p : ℕ) → p < i + 1 → (t ≡ u → ⊥) → (b : Bool) → eqb p i ≡ b
-        → eqb (get_or places t 0) (suc p) ≡ eqb t (get_or ts p 0)
-    that r k e t p h z true q =
-        let s = eqb-true p i q in
-        let l = before.low t in
-        ne_eqb (get_or places t 0) (suc p) (λ y. omega arith) ∙ sym (ne_eqb t (get_or ts p 0) (λ y. z (y ∙ ap (λ (x : ℕ). get_or ts x 0) s ∙ sym e)))
-    that r k e t p h z false q = let ne = eqb-false p i q in before.right r k t p (omega arith)
-
-    given : RisingTerms n ts → ((p : ℕ) → p < n → get_or ts p 0 < term_limit) → u ≡ get_or ts i 0 → (t p : ℕ) → p < i + 1 → (b : Bool) → eqb t u ≡ b
-        → eqb (get_or (set places u (i + 1)) t 0) (suc p) ≡ eqb t (get_or ts p 0)
-    given r k e t p h true q = rw (same t q) (this r e t p h (eqb-true t u q) (eqb p i) refl)
-    given r k e t p h false q = rw (other t q) (that r k e t p h (eqb-false t u q) (eqb p i) refl)
-
 -- ---- rows
 
 -- a term's place gets what the cells have of the term
@@ -150,10 +97,6 @@ unfolding found lookup
 found_lookup q places t r k p h [] = refl
 found_lookup q places t r k p h (c ∷ cs) =
     ap₂ (λ (b : Bool) (x : ℕ). cond b (cell_impact c) x) (t.right r k (cell_term c) p h) (found_lookup q places t r k p h cs)
-
-pub val_most : (b : Bool) → val b ≤ 1
-val_most true = omega arith
-val_most false = omega arith
 
 -- whether the message in slot j has a term with a place
 abbrev pub touched_in : List ℕ → List ℕ → ℕ → Bool
@@ -195,9 +138,6 @@ pub record Looking (w js : List ℕ) (q : Query) (rows : List ℕ) (i : ℕ) : T
   pub narrow : Narrow rows
   pub right : Rising q → Known q → (k : ℕ) → k < i → RowOf (slot w (get_or js k 0)).cells q rows k
   pub blank : (x : ℕ) → row_width * i ≤ x → get_or rows x 0 ≡ 0
-
-pub looking_none : (w js : List ℕ) (q : Query) (rows : List ℕ) → ((x : ℕ) → get_or rows x 0 ≡ 0) → Looking w js q rows 0
-looking_none w js q rows z = record { narrow = λ x. omega (arith, z x); right = λ r t k h. absurd (omega arith); blank = λ x h. z x }
 
 pub looking_more : (w js : List ℕ) (q : Query) (places rows rows' : List ℕ) (i : ℕ) → q.n ≤ most_terms → Placed q places
     → LookedAt (slot w (get_or js i 0)).cells places (row_width * i) rows rows' → Looking w js q rows i → Looking w js q rows' (i + 1)

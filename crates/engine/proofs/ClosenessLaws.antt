@@ -140,12 +140,12 @@ module _ (s : List ℕ) (serial n : ℕ) where
         shows : map (slot (words s)) (ring o c) ≡ map held (filled_now log)
         shows = rw (l.oldest_is r.oldest_below, l.count_is r.count_below) r.shows
 
-        in_force_lem : in_force_now log ≡ select active (filled_now log)
-        in_force_lem = in_force_filled log.N log.T log.clock log.messages
+        in_force_is : in_force_now log ≡ select active (filled_now log)
+        in_force_is = in_force_filled log.N log.T log.clock log.messages
 
         -- whether a slot has it is whether a message in force has it
         has_it : holds_serial serial (map (slot (words s)) (ring o c)) ≡ has_serial serial (in_force_now log)
-        has_it = rw (shows, in_force_lem) (holds_serial_lem serial small (filled_now log) (filled_valid log log.clock r.sound))
+        has_it = rw (shows, in_force_is) (holds_serial_lem serial small (filled_now log) (filled_valid log log.clock r.sound))
 
       -- no slot has it
       pub closeness_unknown : (x : Compared) → slots ≤ j → Uncompared 13 x → ClosenessPost s serial n x
@@ -162,7 +162,7 @@ module _ (s : List ℕ) (serial n : ℕ) where
         there : (log : Log) → Represents log (words s) → Sought (slot (words s) j) serial (in_force_now log)
         there log r =
             ⊎_elim (λ p. absurd (omega (arith, p.0)))
-            (λ p. rw (is, in_force_lem log r) (sought (words s) serial small (ring o c) (filled_now log) (shows log r) (filled_valid log log.clock r.sound) p.1))
+            (λ p. rw (is, in_force_is log r) (sought (words s) serial small (ring o c) (filled_now log) (shows log r) (filled_valid log log.clock r.sound) p.1))
             (seek_cases (words s) serial (ring o c))
 
         module _ {b : Bool} (test : b ≡ registered_in (words s) n) where

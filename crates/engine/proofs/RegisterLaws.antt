@@ -131,8 +131,8 @@ module _ (t p : ℕ) (log : Log) (w w₁ w₂ : List ℕ) (r : Represents log w)
   without_sound =
       let s = r.sound in
       record {
-        N-least = s.N-least;
-        T-least = s.T-least;
+        n_least = s.n_least;
+        t_least = s.t_least;
         clock_below = s.clock_below;
         ordered = s.ordered;
         distinct = s.distinct;

@@ -48,7 +48,7 @@ none_at zero i = refl
 none_at (suc n) zero = refl
 none_at (suc n) (suc i) = none_at n i
 
-module _ (N T : ℕ) (N-least : 1 ≤ N) (N-most : N ≤ most_messages) (T-least : 1 ≤ T) (T-most : T ≤ longest_life) where
+module _ (N T : ℕ) (n_least : 1 ≤ N) (n_most : N ≤ most_messages) (t_least : 1 ≤ T) (t_most : T ≤ longest_life) where
   abbrev after : List ℕ
   after = set (set (zeros state_words) capacity_at N) life_at T
 
@@ -86,11 +86,11 @@ module _ (N T : ℕ) (N-least : 1 ≤ N) (N-most : N ≤ most_messages) (T-least
             ∙ get_or-set_same (zeros state_words) capacity_at N 0 (omega arith);
         life = get_or-set_same (set (zeros state_words) capacity_at N) life_at T 0 (omega arith);
         clock = rest clock_at (omega arith);
-        capacity_most = N-most;
+        capacity_most = n_most;
         oldest_below = let e = rest oldest_at (omega arith) in omega arith;
         count_below = let e = rest count_at (omega arith) in omega arith;
         shows = empty_window after (oldest_of after) (count_of after) (rest count_at (omega arith));
-        sound = fresh_sound N T N-least T-least;
+        sound = fresh_sound N T n_least t_least;
         records = λ q h. subst (HoldsAt after q (oldest_of after) (count_of after) (seen (fresh N T))) (sym (none_at numbers q)) (empty_record q);
       }
 

@@ -180,7 +180,7 @@ pub in_force_after : (log : Log) (f : Frame) → Sound log → judge_frame log f
 unfolding accept stays
 in_force_after log f sound ok =
     in_force_noting log.N log.T (cancels log f) log.clock (time_of f) log.messages (arrivals f) (time_from_clock log f sound ok)
-    ∙ ap (λ (l : List Message). stays log f ++ l) (arrive log.N log.T f sound.N-least).0
+    ∙ ap (λ (l : List Message). stays log f ++ l) (arrive log.N log.T f sound.n_least).0
 
 -- ---- the places of the window
 
@@ -223,7 +223,7 @@ module _ (log : Log) (f : Frame) (none : (j : ℕ) (m : Message) → cancels log
   places_after =
       ap (λ (l : List Message). filled log.N log.T (time_of f) (l ++ arrivals f)) (noting_none (cancels log f) none log.messages)
       ∙ filled_append log.N log.T (time_of f) log.messages (arrivals f)
-      ∙ ap (λ (l : List Message). keeps log (time_of f) more ++ l) (arrive log.N log.T f sound.N-least).1
+      ∙ ap (λ (l : List Message). keeps log (time_of f) more ++ l) (arrive log.N log.T f sound.n_least).1
 
 -- no two share a serial as time goes on
 pub distinct_at : (log : Log) (t : ℕ) → Sound log → log.clock ≤ t → Distinct (in_force_at log t)
@@ -323,8 +323,8 @@ accept_sound log f sound v ok =
     let late = time_from_clock log f sound ok in
     let new = arrivals_from f log.clock late in
     record {
-      N-least = sound.N-least;
-      T-least = sound.T-least;
+      n_least = sound.n_least;
+      t_least = sound.t_least;
       clock_below = valid_time f v;
       ordered =
           ordered_append log.clock (time_of f) (noting (cancels log f) log.messages) (arrivals f)
@@ -342,8 +342,8 @@ accept_sound log f sound v ok =
 pub fresh_sound : (N T : ℕ) → 1 ≤ N → 1 ≤ T → Sound (fresh N T)
 unfolding in_force
 fresh_sound N T n t = record {
-  N-least = n;
-  T-least = t;
+  n_least = n;
+  t_least = t;
   clock_below = omega arith;
   ordered = tt;
   distinct = tt;

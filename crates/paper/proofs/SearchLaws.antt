@@ -188,7 +188,7 @@ module _ (ms : List Message) (es : List Entry) where
     first : take 1 (get_or left at []) ≡ one ∷ []
     less : count_in left ≡ suc (count_in (without at left))
     then : AllLeft ms (one ∷ es) qs (without at left)
-    in_force_lem : In one.of ms
+    among : In one.of ms
     scores : 0 < score qs one.of.pairs
 
   module _ (p : Pair) (qs : List Pair) (left : List (List Entry)) where
@@ -203,7 +203,7 @@ module _ (ms : List Message) (es : List Entry) where
           first = refl;
           less = omega arith;
           then = (left_rest e p.term l a.0, left_others e qs left a.1);
-          in_force_lem = r.0;
+          among = r.0;
           scores = omega (arith, mul-pos w has);
         }
 
@@ -214,7 +214,7 @@ module _ (ms : List Message) (es : List Entry) where
       first = s.first;
       less = omega (arith, s.less);
       then = (left_other s.one p.term l a, s.then);
-      in_force_lem = s.in_force_lem;
+      among = s.among;
       scores = omega (arith, s.scores);
     }
 
@@ -428,7 +428,7 @@ module _ (q : Query) (ms : List Message) (terms : Terms q) (distinct : Distinct 
       (ended_later n left es s.one (search_on n q ms (without (next_at q.terms left) left) (s.one ∷ es)) held e
       (searched n (without (next_at q.terms left) left) (s.one ∷ es) (record {
         parts = s.then;
-        reads = λ x i. ⊎_elim (λ p. subst (λ (y : Entry). In y.of ms × (0 < measure y.of.pairs)) (sym p) (s.in_force_lem, s.scores)) (λ j. held.reads x j) i;
+        reads = λ x i. ⊎_elim (λ p. subst (λ (y : Entry). In y.of ms × (0 < measure y.of.pairs)) (sym p) (s.among, s.scores)) (λ j. held.reads x j) i;
       }) (omega (arith, s.less)))))
 
   whole : Ended (count_in (postings_of q.terms ms)) (postings_of q.terms ms) [] (search q ms)

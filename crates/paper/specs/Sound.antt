@@ -38,8 +38,8 @@ Queries (none ∷ qs) = Queries qs
 Queries (some q ∷ qs) = Terms q × Queries qs
 
 pub record Sound (log : Log) : Type 0 where
-  pub N-least : 1 ≤ log.N
-  pub T-least : 1 ≤ log.T
+  pub n_least : 1 ≤ log.N
+  pub t_least : 1 ≤ log.T
   pub clock_below : log.clock < 2 ^ time_width
   pub ordered : Chronological log.clock log.messages
   pub distinct : Distinct (in_force_now log)

@@ -31,7 +31,8 @@ module _ (t : ℕ) where
       measure ps = impact_in ps t
 
       go : (b : Bool) → having t (map stored ms) ≡ lines (entries measure ms)
-          → cond b (line (entry measure m) ∷ having t (map stored ms)) (having t (map stored ms)) ≡ lines (cond b (entry measure m ∷ entries measure ms) (entries measure ms))
+          → cond b (line (entry measure m) ∷ having t (map stored ms)) (having t (map stored ms))
+          ≡ lines (cond b (entry measure m ∷ entries measure ms) (entries measure ms))
       go true ih = ap (λ (r : List Line). line (entry measure m) ∷ r) ih
       go false ih = ih
 

@@ -30,7 +30,8 @@ listed_suc (suc i) (x ∷ xs) (y ∷ ys) ha hb =
     ap (λ (r : List Keyed). keyed_with x y ∷ r) (listed_suc i xs ys (le_of_suc-le-suc ha) (le_of_suc-le-suc hb))
 
 -- a line written at the next place
-listed_set : (s c n : ℕ) (a b : List ℕ) → n < length a → n < length b → listed keyed_with (suc n) (set a n s) (set b n c) ≡ listed keyed_with n a b ++ (new s c ∷ [])
+listed_set : (s c n : ℕ) (a b : List ℕ) → n < length a → n < length b
+    → listed keyed_with (suc n) (set a n s) (set b n c) ≡ listed keyed_with n a b ++ (new s c ∷ [])
 unfolding listed
 listed_set s c n [] b ha hb = absurd (not-suc-le-zero ha)
 listed_set s c n (x ∷ xs) [] ha hb = absurd (not-suc-le-zero hb)

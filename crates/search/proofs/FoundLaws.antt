@@ -49,24 +49,24 @@ use Rattle.search.proofs.CutLaws.{cut_steps}
 -- ---- lists that are the same to every cut
 
 record Alike (a b : List ℕ) : Type 0 where
-  up_to_lem : (c : ℕ) → up_to c a ≡ up_to c b
+  up_to_same : (c : ℕ) → up_to c a ≡ up_to c b
   over_it : (c : ℕ) → over c a ≡ over c b
 
 alike_same : {a b : List ℕ} → a ≡ b → Alike a b
-alike_same e = record { up_to_lem = λ c. ap (up_to c) e; over_it = λ c. ap (over c) e }
+alike_same e = record { up_to_same = λ c. ap (up_to c) e; over_it = λ c. ap (over c) e }
 
 alike_then : {a b d : List ℕ} → Alike a b → Alike b d → Alike a d
-alike_then x y = record { up_to_lem = λ c. x.up_to_lem c ∙ y.up_to_lem c; over_it = λ c. x.over_it c ∙ y.over_it c }
+alike_then x y = record { up_to_same = λ c. x.up_to_same c ∙ y.up_to_same c; over_it = λ c. x.over_it c ∙ y.over_it c }
 
 alike_back : {a b : List ℕ} → Alike a b → Alike b a
-alike_back x = record { up_to_lem = λ c. sym (x.up_to_lem c); over_it = λ c. sym (x.over_it c) }
+alike_back x = record { up_to_same = λ c. sym (x.up_to_same c); over_it = λ c. sym (x.over_it c) }
 
 -- 0 left out, and another order
 alike_positive : (l : List ℕ) → Alike (select (ltb 0) l) l
-alike_positive l = record { up_to_lem = λ c. up_to_positive c l; over_it = λ c. over_positive c l }
+alike_positive l = record { up_to_same = λ c. up_to_positive c l; over_it = λ c. over_positive c l }
 
 alike_sort : (ahead : ℕ → ℕ → Bool) (l : List ℕ) → Alike (sort ahead l) l
-alike_sort ahead l = record { up_to_lem = λ c. up_to_sort c ahead l; over_it = λ c. over_sort c ahead l }
+alike_sort ahead l = record { up_to_same = λ c. up_to_sort c ahead l; over_it = λ c. over_sort c ahead l }
 
 -- those left out that have 0
 alike_select : (f : ℕ → ℕ) (test : ℕ → Bool) → ((j : ℕ) → test j ≡ false → f j ≡ 0) → (js : List ℕ) → Alike (map f (select test js)) (map f js)
@@ -268,7 +268,7 @@ module _ {w rows js : List ℕ} {first count : ℕ} {r : Query} {list : Ranked} 
     same_weight p l = sym (at_place is p l).1 ∙ sym (get_or-map (λ x. x.amount) q.terms p (record { term = 0; amount = 0 }))
 
     sums : (x : ℕ) → sum_by cols (length js) r x ≡ sum_at (length weights) weights impacts x
-    sums x = rw (← same_size) (sum_agree r.n r.weights weights (column cols (length js)) impacts same_weight x (λ p l c. (alike p l).up_to_lem c))
+    sums x = rw (← same_size) (sum_agree r.n r.weights weights (column cols (length js)) impacts same_weight x (λ p l c. (alike p l).up_to_same c))
 
     reads : (x : ℕ) → read_by cols (length js) r x ≡ read_at (length weights) weights impacts x
     reads x = rw (← same_size) (read_agree r.n r.weights weights (column cols (length js)) impacts same_weight x (λ p l c. (alike p l).over_it c))

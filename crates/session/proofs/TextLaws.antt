@@ -3,10 +3,9 @@ use Prim.Native.Nat.{ℕ, zero, suc, ◌+◌, ◌-◌, ◌/◌, ◌%◌, ◌^◌
 use native.Mathlib.Nat.{pow-suc, pow-le-pow_right}
 use native.Mathlib.Omega.{arith}
 use mathlib.Core.Path.{◌≡◌, refl, sym, ap, ◌∙◌, subst}
-use mathlib.Core.Bool.{Bool, true, false, cond}
+use mathlib.Core.Bool.{Bool, true, false}
 use mathlib.Core.List.{List, [], ◌∷◌, ◌++◌, append_assoc, append-nil}
-use lib.ListN.{length, take, length-append}
-use lib.Seq.{paste, length-paste, take-paste, take-length}
+use lib.ListN.{take, length-append}
 use lib.Dec.{ltb, eqb}
 use borrow.Author.Tests.{ltb-true, ltb-false, lt-ltb, le-ltb}
 use Rattle.io.specs.Digits.{hex_digit_ascii, last_digits, IsDigitCount}
@@ -30,27 +29,7 @@ put_then {a} {b} {out} {at = at} p q =
 pub put_same : {a b out out₁ : List ℕ} {at r : ℕ} → a ≡ b → Put a at out r out₁ → Put b at out r out₁
 put_same {out = out} {out₁ = out₁} {at = at} {r = r} e p = subst (λ (t : List ℕ). Put t at out r out₁) e p
 
--- a copy of the whole text
-pub put_pasted : (text : List ℕ) (at : ℕ) (out out' : List ℕ) (i : ℕ) → i ≡ length text → out' ≡ paste out at text i → at + length text ≤ length out
-    → Put text at out (at + i) out'
-put_pasted text at out out' i e p h =
-    rw (p, e)
-    (record {
-      long = length-paste out at text (length text) h (omega arith);
-      end = refl;
-      bytes = take-paste out at text (length text) (omega arith) (omega arith) ∙ ap (λ (t : List ℕ). take at out ++ t) (take-length text);
-    })
-
 -- ---- numbers
-
-pub spelled_most : (most n : ℕ) → length (spelled most n) ≤ most
-unfolding spelled
-spelled_most zero n = omega arith
-spelled_most (suc most) n = go (ltb n 10) (spelled_most most (n / 10))
-  where
-    go : (t : Bool) → length (spelled most (n / 10)) ≤ most → length (cond t [] (spelled most (n / 10)) ++ (hex_digit_ascii (n % 10) ∷ [])) ≤ suc most
-    go true ih = omega arith
-    go false ih = let l = length-append (spelled most (n / 10)) (hex_digit_ascii (n % 10) ∷ []) in omega arith
 
 -- one digit less holds the number without its last digit
 fewest_less : (k n : ℕ) → IsDigitCount 10 1 n (suc (suc k)) → (10 ≤ n) × IsDigitCount 10 1 (n / 10) (suc k)

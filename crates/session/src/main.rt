@@ -1,12 +1,12 @@
-// The session: an engine fed from standard input, its replies and lists on standard output.
+// The session: an engine fed from standard input, its replies and lists on standard output. A read or a write that fails ends it, with that error.
 #![tactic(auto)]
 
 mod text;
 
-ghost use Rattle.std.specs.Prelude.{◌+◌, ◌≤◌, length as Len};
+ghost use Rattle.std.specs.Prelude.{◌+◌, ◌≤◌, length as Len, IfOk};
 ghost use Rattle.session.specs.Text.{Printed, Shown, Lists};
 
-use libc::{STDIN_FILENO, STDOUT_FILENO};
+use std::io::{Print, Read, Result};
 
 // The list of a query that is marked and still registered.
 fn shown(out: &mut [u8], at: usize, state: &[u8], q: u32, marked: bool) -> usize
@@ -48,51 +48,80 @@ fn wide(x: u8) -> usize
     x as usize
 }
 
-// Fills the first bytes of a buffer from the input, and answers how many came.
-fn fill(bytes: &mut [u8], length: usize) -> usize
-    requires { length ≤ Len bytes.old }
-    ensures { result ≤ Len bytes.new }
+// Reads until the buffer is full or the input ends, and answers how many bytes came.
+fn read_full(input: &mut impl Read, bytes: &mut [u8]) -> Result<usize>
+    ensures { IfOk result (λ n. n ≤ Len bytes.new) }
 {
-    io::read_full(STDIN_FILENO, &mut bytes[..length])
+    let mut done = 0;
+    while done < bytes.len() {
+        let n = input.read(&mut bytes[done..])?;
+        if n == 0 {
+            break;
+        }
+        done += n;
+    }
+    Ok(done)
+}
+
+// Fills the first bytes of a buffer from the input, and answers how many came.
+fn fill(input: &mut impl Read, bytes: &mut [u8], length: usize) -> Result<usize>
+    requires { length ≤ Len bytes.old }
+    ensures { IfOk result (λ n. n ≤ Len bytes.new) }
+{
+    read_full(input, &mut bytes[..length])
 }
 
 // Hands a frame, the first bytes of a buffer, to the engine, and prints what follows in one write.
-fn hand(state: &mut [u8], ordinal: u64, bytes: &[u8], length: usize, out: &mut [u8])
+fn hand(
+    output: &impl Print,
+    state: &mut [u8],
+    ordinal: u64,
+    bytes: &[u8],
+    length: usize,
+    out: &mut [u8],
+) -> Result<()>
     requires length_len_bound { length ≤ Len bytes.now }
     requires bound { 22984 ≤ Len out.old }
 {
     let reply = engine::frame(state, &bytes[..length]);
     let line = text::reply(out, 0, ordinal, reply);
     let end = lists(out, line, state, reply.marks);
-    io::write_all(STDOUT_FILENO, &out[..end]);
+    output.write_all(&out[..end])
 }
 
 // Reads one frame and hands it on; answers whether there was one.
-fn feed(state: &mut [u8], ordinal: u64, out: &mut [u8]) -> bool
+fn feed(
+    input: &mut impl Read,
+    output: &impl Print,
+    state: &mut [u8],
+    ordinal: u64,
+    out: &mut [u8],
+) -> Result<bool>
     requires { 22984 ≤ Len out.old }
 {
     let mut size = [0u8; 1];
-    if io::read_full(STDIN_FILENO, &mut size) == 0 {
-        return false;
+    if read_full(input, &mut size)? == 0 {
+        return Ok(false);
     }
     let mut bytes = [0u8; 255];
     let length = wide(size[0]);
-    let got = fill(&mut bytes, length);
-    hand(state, ordinal, &bytes, got, out);
-    true
+    let got = fill(input, &mut bytes, length)?;
+    hand(output, state, ordinal, &bytes, got, out)?;
+    Ok(true)
 }
 
 // A proved loop has to end, so frames are counted down from a number that no session uses up.
-fn run(state: &mut [u8]) {
+fn run(input: &mut impl Read, output: &impl Print, state: &mut [u8]) -> Result<()> {
     let mut out = [0u8; text::MOST];
     let mut left = u64::MAX;
-    while left > 0 && feed(state, u64::MAX - left + 1, &mut out) {
+    while left > 0 && feed(input, output, state, u64::MAX - left + 1, &mut out)? {
         left -= 1;
     }
+    Ok(())
 }
 
 // What ends a session before its first frame.
-fn print_refusal(number: u32) {
+fn print_refusal(output: &impl Print, number: u32) -> Result<()> {
     let mut out = [0u8; 72];
     let reply = engine::Reply {
         number,
@@ -100,22 +129,21 @@ fn print_refusal(number: u32) {
         departures: 0,
     };
     let end = text::reply(&mut out, 0, 0, reply);
-    io::write_all(STDOUT_FILENO, &out[..end]);
+    output.write_all(&out[..end])
 }
 
-fn main() {
+fn main(rt: HostRuntime) -> Result<()> {
+    let mut input = rt.stdin();
     let mut header = [0u8; 3];
-    if io::read_full(STDIN_FILENO, &mut header) < 3 {
-        print_refusal(1);
-        return;
+    if read_full(&mut input, &mut header)? < 3 {
+        return print_refusal(&rt, 1);
     }
     let mut state = [0u8; paper::layout::STATE];
     let capacity = wide(header[0]) + 1;
     let life = wide(header[1]) * 256 + wide(header[2]);
     let number = engine::start(&mut state, capacity as u32, life as u32);
     if number != 0 {
-        print_refusal(number);
-        return;
+        return print_refusal(&rt, number);
     }
-    run(&mut state);
+    run(&mut input, &rt, &mut state)
 }

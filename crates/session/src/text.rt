@@ -1,6 +1,6 @@
 // What the session prints, gathered in a buffer: each function puts its text after the first `at` bytes and answers where it ends.
 ghost use Rattle.std.specs.Prelude.{◌+◌, ◌≤◌, length as Len};
-ghost use Rattle.session.specs.Text.{Put, decimal, field as Text·field, marks_field, reply_line, entries as Text·entries, list_line};
+ghost use Rattle.session.specs.Text.{Put, decimal, field as text_field, marks_field, reply_line, entries as text_entries, list_line};
 
 use rank::Lines;
 
@@ -32,7 +32,7 @@ fn number(out: &mut [u8], at: usize, n: u64) -> usize
 // A space and a number.
 fn field(out: &mut [u8], at: usize, n: u64) -> usize
     requires { at + 21 ≤ Len out.old }
-    ensures put { Put (Text·field n) at out.old result out.new }
+    ensures put { Put (text_field n) at out.old result out.new }
     ensures upper_bound { result ≤ at + 21 }
 {
     let next = put(out, at, b" ");
@@ -67,7 +67,7 @@ pub fn reply(out: &mut [u8], at: usize, ordinal: u64, reply: engine::Reply) -> u
 // Serial and score of each of the first places of a list.
 fn entries(out: &mut [u8], at: usize, serials: [u32; 16], scores: [u32; 16], count: usize) -> usize
     requires { (count ≤ 16) × (at + 672 ≤ Len out.old) }
-    ensures put { Put (Text·entries serials scores count) at out.old result out.new }
+    ensures put { Put (text_entries serials scores count) at out.old result out.new }
     ensures upper_bound { result ≤ at + 672 }
 {
     let mut end = at;

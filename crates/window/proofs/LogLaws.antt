@@ -34,7 +34,9 @@ unfolding holds_serial has_serial stored silenced select
 holds_serial_lem s h [] v = refl
 holds_serial_lem s h (m ∷ ms) v =
     by_bool m.cancelled
-    (λ e. rw (e, holds_serial_lem s h ms v.2, ne_eqb (m.serial % 2 ^ serial_width + 2 ^ serial_width * min (length m.pairs) most_pairs) s (λ z. omega (arith, v.1.least_one))))
+    (λ e.
+    let other = ne_eqb (m.serial % 2 ^ serial_width + 2 ^ serial_width * min (length m.pairs) most_pairs) s (λ z. omega (arith, v.1.least_one)) in
+    rw (e, holds_serial_lem s h ms v.2, other))
     (λ e. rw (e, holds_serial_lem s h ms v.2))
 
 -- so one that has a serial that a frame can say isn't
@@ -94,7 +96,8 @@ module _ (N T : ℕ) where
   filled_first t (m ∷ l) = go (ltb (length l) N) (aged T t m) refl (filled_first t l)
     where
       go : (a p : Bool) → aged T t m ≡ p → drop_past T t (map held (filled N T t l)) ≡ map held (filled N T t l)
-          → drop_past T t (map held (cond (a && not p) (m ∷ filled N T t l) (filled N T t l))) ≡ map held (cond (a && not p) (m ∷ filled N T t l) (filled N T t l))
+          → drop_past T t (map held (cond (a && not p) (m ∷ filled N T t l) (filled N T t l)))
+          ≡ map held (cond (a && not p) (m ∷ filled N T t l) (filled N T t l))
       go true false e ih = rw (held_time m, e)
       go true true e ih = ih
       go false p e ih = ih
@@ -176,7 +179,7 @@ roomy_shows {o} {n} {clock} {clock'} {o'} {n'} w log t sound low e r = go (ltb n
     go false f =
         let h = ltb-false n log.N f in
         let c = window_count w o n (filled_at log t) e in
-        let k = sound.N-least in
+        let k = sound.n_least in
         let less = r.full h (omega arith) in
         let q = r.moved.oldest_is in
         let p : o' ≡ next o = omega arith in

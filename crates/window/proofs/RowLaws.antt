@@ -68,7 +68,8 @@ module _ (places cs : List ℕ) (i s : ℕ) where
   touches_more c h e = rw (drop-cons cs i 0 h, e, add-one) (go (ltb 0 s) refl)
     where
       go : (b : Bool) → ltb 0 s ≡ b
-          → (ltb 0 (s + get_or places (cell_term c) 0) || touches places (drop (suc i) cs)) ≡ (b || (ltb 0 (get_or places (cell_term c) 0) || touches places (drop (suc i) cs)))
+          → (ltb 0 (s + get_or places (cell_term c) 0) || touches places (drop (suc i) cs))
+          ≡ (b || (ltb 0 (get_or places (cell_term c) 0) || touches places (drop (suc i) cs)))
       go true p = rw (lt-ltb 0 (s + get_or places (cell_term c) 0) (omega (arith, ltb-true 0 s p)))
       go false p = let z : s ≡ 0 = omega (arith, ltb-false 0 s p) in rw (z, zero-add)
 

@@ -166,7 +166,8 @@ cells_in n (suc m) (t ∷ ts) (f ∷ fs) ht hf = let r = cells_in n m ts fs (ome
   where
     at : ((i : ℕ) → i < m → get_or (map (cell_of n) (side_by_side m ts fs)) i 0 ≡ packed (get_or ts i 0) (get_or fs i 0) (impact (get_or fs i 0) n))
         → (i : ℕ) → i < suc m
-        → get_or (map (cell_of n) (side_by_side (suc m) (t ∷ ts) (f ∷ fs))) i 0 ≡ packed (get_or (t ∷ ts) i 0) (get_or (f ∷ fs) i 0) (impact (get_or (f ∷ fs) i 0) n)
+        → get_or (map (cell_of n) (side_by_side (suc m) (t ∷ ts) (f ∷ fs))) i 0
+        ≡ packed (get_or (t ∷ ts) i 0) (get_or (f ∷ fs) i 0) (impact (get_or (f ∷ fs) i 0) n)
     at r zero h = refl
     at r (suc i) h = r i (omega arith)
 
@@ -175,9 +176,12 @@ module _ (m : ℕ) (ts fs : List ℕ) (ht : m ≤ length ts) (hf : m ≤ length 
   unfolding cells_of
   cells_length = (cells_in (squares (side_by_side m ts fs)) m ts fs ht hf).0
 
-  pub cell_at : (i : ℕ) → i < m → get_or (cells_of (side_by_side m ts fs)) i 0 ≡ packed (get_or ts i 0) (get_or fs i 0) (impact (get_or fs i 0) (squares_of m fs))
+  pub cell_at : (i : ℕ) → i < m
+      → get_or (cells_of (side_by_side m ts fs)) i 0 ≡ packed (get_or ts i 0) (get_or fs i 0) (impact (get_or fs i 0) (squares_of m fs))
   unfolding cells_of
-  cell_at i h = (cells_in (squares (side_by_side m ts fs)) m ts fs ht hf).1 i h ∙ ap (λ (n : ℕ). packed (get_or ts i 0) (get_or fs i 0) (impact (get_or fs i 0) n)) (squares_side m ts fs ht)
+  cell_at i h =
+      (cells_in (squares (side_by_side m ts fs)) m ts fs ht hf).1 i h
+      ∙ ap (λ (n : ℕ). packed (get_or ts i 0) (get_or fs i 0) (impact (get_or fs i 0) n)) (squares_side m ts fs ht)
 
 -- in words: time, serial and the number of cells with the urgency above it, then the cells
 slot_written : (j : ℕ) (x : Message) (m v : ℕ) (w w' : List ℕ) → j < slots → length w ≡ state_words → m ≤ most_pairs → length x.pairs ≡ m
@@ -302,7 +306,8 @@ slot_silenced j x v w low long is kept = record {
     size_is = omega arith
 
 -- as the words are put one after the other
-pub slot_cancelled : (j : ℕ) (s₀ s₁ s₂ : List ℕ) {x v : ℕ} → length s₀ ≡ state_length → j < slots → x ≡ (slot (words s₀) j).serial % 1048576 + 1048576 * size_at (words s₀) j
+pub slot_cancelled : (j : ℕ) (s₀ s₁ s₂ : List ℕ) {x v : ℕ} → length s₀ ≡ state_length → j < slots
+    → x ≡ (slot (words s₀) j).serial % 1048576 + 1048576 * size_at (words s₀) j
     → v ≡ cell_limit * grade_in (slot (words s₀) j) → s₁ ≡ put_word s₀ (serial_at j) x → s₂ ≡ put_word s₁ (cell_count_at j) v
     → Cancelled j (words s₀) (words s₂)
 slot_cancelled j s₀ s₁ s₂ {x} {v} long low is kept e₁ e₂ =

@@ -80,7 +80,9 @@ module _ (w : List ℕ) (o n : ℕ) {first table : List ℕ} (j left : ℕ) wher
 
 -- from a table of zeros on
 pub table_of : {xs : List Slot} {table : List ℕ} → RaisedBy xs (replicate term_limit 0) table → TableOf xs table
-table_of {xs} raised = record { is = λ t h. raised.is t h ∙ ap (λ (n : ℕ). max n (greatest t xs)) (get_or-replicate term_limit t 0 0 h) ∙ zero-max (greatest t xs) }
+table_of {xs} raised = record {
+  is = λ t h. raised.is t h ∙ ap (λ (n : ℕ). max n (greatest t xs)) (get_or-replicate term_limit t 0 0 h) ∙ zero-max (greatest t xs);
+}
 
 -- slots that aren't live add nothing
 pub greatest_live : (w js : List ℕ) (t : ℕ) → greatest t (map (slot w) (live w js)) ≡ greatest t (map (slot w) js)

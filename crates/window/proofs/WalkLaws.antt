@@ -119,7 +119,8 @@ seek_cases w s (j ∷ js) =
     by_bool (eqb (slot w j).serial s)
     (λ e. rw e (inr (record { before = []; after = js; parts = refl; serial = eqb-true (slot w j).serial s e }, refl)))
     (λ e. rw e
-    (⊎_elim (λ p. inl p) (λ p. inr (record { before = j ∷ p.0.before; after = p.0.after; parts = ap (λ (l : List ℕ). j ∷ l) p.0.parts; serial = p.0.serial }, p.1))
+    (⊎_elim (λ p. inl p)
+    (λ p. inr (record { before = j ∷ p.0.before; after = p.0.after; parts = ap (λ (l : List ℕ). j ∷ l) p.0.parts; serial = p.0.serial }, p.1))
     (seek_cases w s js)))
 
 -- ---- how many are in force
@@ -141,12 +142,14 @@ module _ {w : List ℕ} {first count found j left : ℕ} (c : Counting w first c
 
     pub counting_hit : 0 < v → Counting w first count (found + 1) p (left - 1)
     counting_hit h =
-        let l = ap length (step ∙ ap (λ (b : Bool). cond b (j ∷ live w (ring p (left - 1))) (live w (ring p (left - 1)))) (lt-ltb 0 (get_or w (cell_count_at j) 0 % cell_limit) (omega arith))) in
+        let l = ap length (step ∙ ap (λ (b : Bool). cond b (j ∷ live w (ring p (left - 1))) (live w (ring p (left - 1))))
+        (lt-ltb 0 (get_or w (cell_count_at j) 0 % cell_limit) (omega arith))) in
         record { below = omega (arith, c.below); most = omega (arith, c.most); number = omega (arith, c.number) }
 
     pub counting_miss : v ≤ 0 → Counting w first count found p (left - 1)
     counting_miss h =
-        let l = ap length (step ∙ ap (λ (b : Bool). cond b (j ∷ live w (ring p (left - 1))) (live w (ring p (left - 1)))) (le-ltb 0 (get_or w (cell_count_at j) 0 % cell_limit) (omega arith))) in
+        let l = ap length (step ∙ ap (λ (b : Bool). cond b (j ∷ live w (ring p (left - 1))) (live w (ring p (left - 1))))
+        (le-ltb 0 (get_or w (cell_count_at j) 0 % cell_limit) (omega arith))) in
         record { below = omega (arith, c.below); most = omega (arith, c.most); number = omega (arith, c.number) }
 
   pub counting_end : left ≤ 0 → (found ≡ length (live w (ring first count))) × (found ≤ count)

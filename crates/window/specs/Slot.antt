@@ -1,5 +1,6 @@
 -- What a slot of the ring holds, and the slots that are in the window. `w` is the state memory in words. Assumes nothing.
-use Rattle.std.specs.Prelude.{ℕ, zero, suc, ◌+◌, ◌*◌, ◌/◌, ◌%◌, ◌^◌, ◌≤◌, ◌<◌, min, Bool, false, cond, ◌||◌, ◌≡◌, ◌⊎◌, List, [], ◌∷◌, map, length, get_or, take, drop, eqb, ltb}
+use Rattle.std.specs.Prelude.{ℕ, zero, suc, ◌+◌, ◌*◌, ◌/◌, ◌%◌, ◌^◌, ◌≤◌, ◌<◌, min}
+use Rattle.std.specs.Prelude.{Bool, false, cond, ◌||◌, ◌≡◌, ◌⊎◌, List, [], ◌∷◌, map, length, get_or, take, drop, eqb, ltb}
 use Rattle.paper.specs.Frame.{level, most_pairs, serial_width, urgency_width}
 use Rattle.paper.specs.Sort.{select}
 use Rattle.paper.specs.Window.{Message, past}

@@ -28,7 +28,7 @@ put_bits-requires c =
 
 pub overflow_add-next : goal.overflow_add-next
 overflow_add-next c =
-    let h = (fits c.before.before.before) in omega arith
+    let h = (fits c.before.before.before.before) in omega arith
 
 pub loop-i-preserved : goal.loop-i-preserved
 loop-i-preserved c =

@@ -13,14 +13,6 @@ use lib.ListN.{length}
 use Rattle.frame.specs.Write.{pair_bits}
 use Rattle.frame.proofs.put_pairs.Goals as goal
 
--- a turn's pair lies in the output
-fits : (c : goal.After-put_bits-arg-1) → let a = c.args in
-    let e = c.loop-i.next + (10 + a.width) in (e ≤ 8 * length a.out.now) × (e ≤ 1024)
-fits c =
-    let a = c.args in
-    let l = c.loop-i in
-    rw l.invariant.1 (turn_fits a.at a.pairs l.i (10 + a.width) (8 * length a.out.now) (omega arith) (omega arith), turn_fits a.at a.pairs l.i (10 + a.width) 1024 (omega arith) (omega arith))
-
 pub loop-i-init : goal.loop-i-init
 unfolding pair_bits spell pair_widths
 loop-i-init c =
@@ -28,28 +20,46 @@ loop-i-init c =
     (omega arith, rw (zero-mul (10 + a.width), add-zero a.at), refl, laid_none a.out.now a.at)
 
 pub overflow_cast-terms : goal.overflow_cast-terms
-overflow_cast-terms c =
-    omega (arith, c.shared_slice_known-in-loop-i-1.given c.loop-i.i)
+overflow_cast-terms c = omega (arith, c.shared_slice_known-in-loop-i-1.given c.loop-i.i)
 
 pub put_bits-requires : goal.put_bits-requires
 put_bits-requires c =
-    let h = (fits c.before) in omega arith
+    let fits : let a = c.args in
+    let e = c.loop-i.next + (10 + a.width) in (e ≤ 8 * length a.out.now) × (e ≤ 1024) =
+    let a = c.args in
+    let l = c.loop-i in
+    rw l.invariant.1 (turn_fits a.at a.pairs l.i (10 + a.width) (8 * length a.out.now) (omega arith) (omega arith), turn_fits a.at a.pairs l.i (10 + a.width) 1024 (omega arith) (omega arith)) in
+    let h = fits in omega arith
 
 pub overflow_add-next : goal.overflow_add-next
 overflow_add-next c =
-    let h = (fits c.before.before.before.before.before) in omega arith
+    let fits : let a = c.args in
+    let e = c.loop-i.next + (10 + a.width) in (e ≤ 8 * length a.out.now) × (e ≤ 1024) =
+    let a = c.args in
+    let l = c.loop-i in
+    rw l.invariant.1 (turn_fits a.at a.pairs l.i (10 + a.width) (8 * length a.out.now) (omega arith) (omega arith), turn_fits a.at a.pairs l.i (10 + a.width) 1024 (omega arith) (omega arith)) in
+    let h = fits in omega arith
 
 pub overflow_cast-amounts : goal.overflow_cast-amounts
-overflow_cast-amounts c =
-    omega (arith, c.shared_slice_known-in-loop-i-2-1.given c.loop-i.i)
+overflow_cast-amounts c = omega (arith, c.shared_slice_known-in-loop-i-2-1.given c.loop-i.i)
 
 pub put_bits-requires-in-loop-i : goal.put_bits-requires-in-loop-i
 put_bits-requires-in-loop-i c =
-    let h = (fits c.before.before.before.before.before.before) in omega arith
+    let fits : let a = c.args in
+    let e = c.loop-i.next + (10 + a.width) in (e ≤ 8 * length a.out.now) × (e ≤ 1024) =
+    let a = c.args in
+    let l = c.loop-i in
+    rw l.invariant.1 (turn_fits a.at a.pairs l.i (10 + a.width) (8 * length a.out.now) (omega arith) (omega arith), turn_fits a.at a.pairs l.i (10 + a.width) 1024 (omega arith) (omega arith)) in
+    let h = fits in omega arith
 
 pub overflow_add-next-in-loop-i-2 : goal.overflow_add-next-in-loop-i-2
 overflow_add-next-in-loop-i-2 c =
-    let h = (fits c.before.before.before.before.before.before.before.before.before) in omega arith
+    let fits : let a = c.args in
+    let e = c.loop-i.next + (10 + a.width) in (e ≤ 8 * length a.out.now) × (e ≤ 1024) =
+    let a = c.args in
+    let l = c.loop-i in
+    rw l.invariant.1 (turn_fits a.at a.pairs l.i (10 + a.width) (8 * length a.out.now) (omega arith) (omega arith), turn_fits a.at a.pairs l.i (10 + a.width) 1024 (omega arith) (omega arith)) in
+    let h = fits in omega arith
 
 pub loop-i-preserved : goal.loop-i-preserved
 loop-i-preserved c =

@@ -7,27 +7,29 @@ use Rattle.wire.specs.Field.{total, scan}
 use Rattle.frame.proofs.HeadLaws.{narrow_at, total_turn, total_more, values_turn}
 use Rattle.frame.proofs.take_fields.Goals as goal
 
--- a turn's field is narrow and lies in the bytes
-fits : (c : goal.In-loop-i) → let a = c.args in
-    let w = get_or a.widths c.loop-i.i 0 in let e = c.loop-i.next + w in (w ≤ 32) × (e ≤ 8 * length a.bytes.now) × (e ≤ 1024)
-fits c =
-    let a = c.args in
-    let i = c.loop-i.i in
-    let t = total_turn a.widths a.fields i (omega arith) (omega arith) in
-    (narrow_at a.widths a.fields i c.requires.fields_bound.1 (omega arith), omega arith, omega arith)
-
 pub loop-i-init : goal.loop-i-init
 unfolding total scan
-loop-i-init c =
-    (omega arith, omega arith, refl)
+loop-i-init c = (omega arith, omega arith, refl)
 
 pub take_bits-value-requires : goal.take_bits-value-requires
 take_bits-value-requires c =
-    let h = (fits c) in omega arith
+    let fits : let a = c.args in
+    let w = get_or a.widths c.loop-i.i 0 in let e = c.loop-i.next + w in (w ≤ 32) × (e ≤ 8 * length a.bytes.now) × (e ≤ 1024) =
+    let a = c.args in
+    let i = c.loop-i.i in
+    let t = total_turn a.widths a.fields i (omega arith) (omega arith) in
+    (narrow_at a.widths a.fields i c.requires.fields_bound.1 (omega arith), omega arith, omega arith) in
+    let h = fits in omega arith
 
 pub overflow_add-next : goal.overflow_add-next
 overflow_add-next c =
-    let h = (fits c.before) in omega arith
+    let fits : let a = c.args in
+    let w = get_or a.widths c.loop-i.i 0 in let e = c.loop-i.next + w in (w ≤ 32) × (e ≤ 8 * length a.bytes.now) × (e ≤ 1024) =
+    let a = c.args in
+    let i = c.loop-i.i in
+    let t = total_turn a.widths a.fields i (omega arith) (omega arith) in
+    (narrow_at a.widths a.fields i c.requires.fields_bound.1 (omega arith), omega arith, omega arith) in
+    let h = fits in omega arith
 
 pub loop-i-preserved : goal.loop-i-preserved
 loop-i-preserved c =

@@ -7,25 +7,26 @@ use Rattle.impact.proofs.Places.{upper_half, lower_half}
 use Rattle.impact.proofs.Table.{entry}
 use Rattle.impact.proofs.place.Goals as goal
 
--- the entry is the square of the place that is looked at
-looked : (c : goal.After-square) → let l = c.loop-low in let m = (l.low + l.high + 1) / 2 in c.square.result ≡ m * m
-looked c =
-    let l = c.loop-low in
-    let s = c.square.ensures in
-    let e = entry ((l.low + l.high + 1) / 2) (omega arith) in
-    omega arith
-
 pub loop-low-init : goal.loop-low-init
-loop-low-init c =
-    record { in_order = c.requires.0; in_range = le_refl c.args.last; meets = c.requires.2; none_above = λ v l m. l }
+loop-low-init c = record { in_order = c.requires.0; in_range = le_refl c.args.last; meets = c.requires.2; none_above = λ v l m. l }
 
 pub loop-low-preserved-then-square-most : goal.loop-low-preserved-then-square-most
 loop-low-preserved-then-square-most c =
-    let e = (looked c.before) in upper_half c.loop-low.invariant (omega arith) (omega arith) (omega arith)
+    let looked : let l = c.loop-low in let m = (l.low + l.high + 1) / 2 in c.square.result ≡ m * m =
+    let l = c.loop-low in
+    let s = c.square.ensures in
+    let e = entry ((l.low + l.high + 1) / 2) (omega arith) in
+    omega arith in
+    let e = looked in upper_half c.loop-low.invariant (omega arith) (omega arith) (omega arith)
 
 pub loop-low-preserved : goal.loop-low-preserved
 loop-low-preserved c =
-    let e = (looked c.before) in lower_half c.loop-low.invariant (omega arith) (omega arith) (omega arith)
+    let looked : let l = c.loop-low in let m = (l.low + l.high + 1) / 2 in c.square.result ≡ m * m =
+    let l = c.loop-low in
+    let s = c.square.ensures in
+    let e = entry ((l.low + l.high + 1) / 2) (omega arith) in
+    omega arith in
+    let e = looked in lower_half c.loop-low.invariant (omega arith) (omega arith) (omega arith)
 
 pub returns : goal.returns
 returns c =

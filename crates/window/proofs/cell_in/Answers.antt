@@ -1,8 +1,8 @@
 -- `cell_in` meets its contract. Assumes nothing.
-use Prim.Native.Nat.{◌-◌, ◌<◌}
+use Prim.Native.Nat.{◌-◌}
 use native.Mathlib.Omega.{arith}
 use mathlib.Core.Path.{◌≡◌, sym, ◌∙◌}
-use lib.ListN.{length, get_or}
+use lib.ListN.{get_or}
 use Rattle.memory.specs.Words.{words}
 use Rattle.impact.proofs.CellLaws.{with_here, with_next, with_end}
 use Rattle.window.specs.Slot.{slot}
@@ -11,29 +11,23 @@ use Rattle.window.proofs.cell_in.Goals as goal
 
 pub returns-then-cell-term : goal.returns-then-cell-term
 returns-then-cell-term c =
-    let read_is : let a = c.args in
-    (c.loop-i.i < length (slot (words a.state.now) a.j).cells) × (get_or (slot (words a.state.now) a.j).cells c.loop-i.i 0 ≡ c.get-cell.result) =
     let a = c.args in
+    let i = c.loop-i.i in
+    let cells = (slot (words a.state.now) a.j).cells in
     let s = slot_size a.state.now a.j (omega arith) (omega arith) in
-    let e = slot_cell a.state.now a.j (omega arith) (omega arith) c.loop-i.i (omega (arith, c.size_in-size.ensures)) in
-    (omega (arith, c.size_in-size.ensures), e ∙ sym c.get-cell.ensures) in
-    let r = read_is in
-    let a = c.args in
-    sym r.1 ∙ sym (with_here a.term c.loop-i.i (slot (words a.state.now) a.j).cells r.0 (omega (arith, r.1))) ∙ c.loop-i.invariant.1
+    let e = slot_cell a.state.now a.j (omega arith) (omega arith) i (omega (arith, c.size_in-size.ensures)) in
+    let read : get_or cells i 0 ≡ c.get-cell.result = e ∙ sym c.get-cell.ensures in
+    sym read ∙ sym (with_here a.term i cells (omega (arith, c.size_in-size.ensures)) (omega (arith, read))) ∙ c.loop-i.invariant.1
 
 pub loop-i-preserved : goal.loop-i-preserved
 loop-i-preserved c =
-    let read_is : let a = c.args in
-    (c.loop-i.i < length (slot (words a.state.now) a.j).cells) × (get_or (slot (words a.state.now) a.j).cells c.loop-i.i 0 ≡ c.get-cell.result) =
     let a = c.args in
+    let i = c.loop-i.i in
+    let cells = (slot (words a.state.now) a.j).cells in
     let s = slot_size a.state.now a.j (omega arith) (omega arith) in
-    let e = slot_cell a.state.now a.j (omega arith) (omega arith) c.loop-i.i (omega (arith, c.size_in-size.ensures)) in
-    (omega (arith, c.size_in-size.ensures), e ∙ sym c.get-cell.ensures) in
-    let r = read_is in
-    let a = c.args in (
-      omega arith,
-      with_next a.term c.loop-i.i (slot (words a.state.now) a.j).cells r.0 (λ e. omega (arith, r.1)) ∙ c.loop-i.invariant.1,
-    )
+    let e = slot_cell a.state.now a.j (omega arith) (omega arith) i (omega (arith, c.size_in-size.ensures)) in
+    let read : get_or cells i 0 ≡ c.get-cell.result = e ∙ sym c.get-cell.ensures in
+    (omega arith, with_next a.term i cells (omega (arith, c.size_in-size.ensures)) (λ e. omega (arith, read)) ∙ c.loop-i.invariant.1)
 
 pub returns : goal.returns
 returns c =

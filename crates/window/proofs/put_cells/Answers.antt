@@ -27,7 +27,7 @@ loop-i-preserved c =
     let i = c.loop-i.i in
     -- what is put is the cell of the pair at i
     let e : c.cell-cell.result ≡ get_or (cells_of (side_by_side a.m a.terms a.counts)) i 0 =
-        c.cell-cell.ensures
-        ∙ ap (packed (get_or a.terms i 0) (get_or a.counts i 0)) (c.of-impact.ensures ∙ ap (impact (get_or a.counts i 0)) c.squared-squares.ensures)
-        ∙ sym (cell_at a.m a.terms a.counts (omega arith) (omega arith) i (omega arith)) in
+    c.cell-cell.ensures
+    ∙ ap (packed (get_or a.terms i 0) (get_or a.counts i 0)) (c.of-impact.ensures ∙ ap (impact (get_or a.counts i 0)) c.squared-squares.ensures)
+    ∙ sym (cell_at a.m a.terms a.counts (omega arith) (omega arith) i (omega arith)) in
     storing_word (omega arith) (omega arith) (rw (← e) (search rules)) (rw (← e) c.put.ensures) c.loop-i.invariant

@@ -11,8 +11,7 @@ use Rattle.window.proofs.put_message.Goals as goal
 
 pub returns : goal.returns
 returns c =
-    let all : let a = c.args in length (side_by_side a.m a.terms a.counts) ≡ a.m =
-    length_side _ _ _ (omega arith) (omega arith) in
+    let all : length (side_by_side c.args.m c.args.terms c.args.counts) ≡ c.args.m = length_side _ _ _ (omega arith) (omega arith) in
     let grade = level_of c.args.urgency (omega arith) in
     message_written _ _ _ _ _ _ _ (omega arith) (omega arith) (omega arith) all (omega arith) (search rules) (search rules) c.put.ensures
     c.put-2.ensures c.put-3.ensures c.put_cells.ensures

@@ -1,5 +1,5 @@
 -- `squares_in` meets its contract. Assumes nothing.
-use Prim.Native.Nat.{◌*◌, ◌-◌, ◌≤◌}
+use Prim.Native.Nat.{◌-◌}
 use native.Mathlib.Omega.{arith}
 use mathlib.Core.Path.{◌≡◌, sym, ap, ◌∙◌}
 use mathlib.Core.List.{map}
@@ -18,8 +18,7 @@ loop-i-init c = (omega arith, c.size_in-size.ensures, omega arith, omega arith)
 
 pub loop-i-preserved : goal.loop-i-preserved
 loop-i-preserved c =
-    let small : c.count_of-count.result * c.count_of-count.result ≤ 255 * 255 =
-    square_most c.count_of-count.result c.count_of-count.ensures.1 in
+    let small = square_most c.count_of-count.result c.count_of-count.ensures.1 in
     let a = c.args in
     let cells = (slot (words a.state.now) a.j).cells in
     let e = slot_cell a.state.now a.j (omega arith) (omega arith) c.loop-i.i (omega arith) in

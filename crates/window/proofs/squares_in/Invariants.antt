@@ -8,7 +8,10 @@ use Rattle.window.specs.Slot.{slot, size_at}
 use Rattle.window.proofs.squares_in.Given as goal
 
 abbrev pub invariant-loop-i : goal.invariant-loop-i
-invariant-loop-i l = (l.i ≤ l.size) × (l.size ≡ size_at (words l.state) l.j) × (l.sum ≡ squares_of l.i (map cell_count (slot (words l.state) l.j).cells)) × (l.sum ≤ l.i * (255 * 255))
+invariant-loop-i l = (l.i ≤ l.size)
+    × (l.size ≡ size_at (words l.state) l.j)
+    × (l.sum ≡ squares_of l.i (map cell_count (slot (words l.state) l.j).cells))
+    × (l.sum ≤ l.i * (255 * 255))
 
 abbrev pub decreases-loop-i : goal.decreases-loop-i
 decreases-loop-i l = l.size - l.i

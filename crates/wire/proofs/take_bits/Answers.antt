@@ -10,27 +10,22 @@ use Rattle.wire.proofs.BitLaws.{one_shl}
 use Rattle.wire.proofs.Gather.{gather_turn, gather_done}
 use Rattle.wire.proofs.take_bits.Goals as goal
 
--- what is gathered before a turn's byte
-gathered_lt : (c : goal.In-loop-i) → c.loop-i.acc < 2 ^ 40
-gathered_lt c =
-    rw c.loop-i.invariant.2 (field_fits _ _ _ 40 (omega arith))
-
 pub loop-i-init : goal.loop-i-init
 unfolding field num
-loop-i-init c =
-    (omega arith, omega arith, rw sub_self)
+loop-i-init c = (omega arith, omega arith, rw sub_self)
 
 pub overflow_mul-acc : goal.overflow_mul-acc
 overflow_mul-acc c =
-    omega (arith, (gathered_lt c))
+    let gathered_lt : c.loop-i.acc < 2 ^ 40 = rw c.loop-i.invariant.2 (field_fits _ _ _ 40 (omega arith)) in
+    omega (arith, gathered_lt)
 
 pub overflow_cast-acc : goal.overflow_cast-acc
-overflow_cast-acc c =
-    omega (arith, c.shared_slice_known-1.given c.loop-i.i)
+overflow_cast-acc c = omega (arith, c.shared_slice_known-1.given c.loop-i.i)
 
 pub overflow_add-acc : goal.overflow_add-acc
 overflow_add-acc c =
-    omega (arith, c.shared_slice_known-1.given c.loop-i.i, (gathered_lt c.before))
+    let gathered_lt : c.loop-i.acc < 2 ^ 40 = rw c.loop-i.invariant.2 (field_fits _ _ _ 40 (omega arith)) in
+    omega (arith, c.shared_slice_known-1.given c.loop-i.i, gathered_lt)
 
 pub loop-i-preserved : goal.loop-i-preserved
 loop-i-preserved c =
@@ -38,8 +33,7 @@ loop-i-preserved c =
     (omega arith, omega arith, gather_turn _ _ _ _ l.invariant.2 l.invariant.0 (omega arith) (omega (arith, c.shared_slice_known-1.given l.i)))
 
 pub nonzero_rem-result : goal.nonzero_rem-result
-nonzero_rem-result c =
-    let w = c.args.width in omega (arith, one_shl w 64 (omega arith), pow_pos w)
+nonzero_rem-result c = let w = c.args.width in omega (arith, one_shl w 64 (omega arith), pow_pos w)
 
 pub overflow_cast-result : goal.overflow_cast-result
 overflow_cast-result c =
@@ -47,5 +41,4 @@ overflow_cast-result c =
     record { fits = rw (one_shl w 64 (omega arith)) (lt_of_lt_of_le (mod-lt _ (pow_pos w)) (pow_mono {j = 32} (omega arith))) }
 
 pub returns : goal.returns
-returns c =
-    gather_done _ _ c.args.width _ _ _ _ c.loop-i.invariant.2 (omega arith) (omega arith) (omega arith) (omega arith)
+returns c = gather_done _ _ c.args.width _ _ _ _ c.loop-i.invariant.2 (omega arith) (omega arith) (omega arith) (omega arith)

@@ -10,9 +10,8 @@ use Rattle.session.proofs.text.marks.Goals as goal
 pub put-requires : goal.put-requires
 put-requires c =
     let e = c.hex-k.ensures in
-    let n = c.args.marked in
-    let m = fewest_most 16 8 n c.hex-k.result 8 (omega arith) e.1.0 (omega arith) (omega arith) in
-    omega (arith, e.0.1, m)
+    let m = fewest_most 16 8 c.args.marked c.hex-k.result 8 (omega arith) e.len (omega arith) (omega arith) in
+    omega (arith, e.in_bounds.1, m)
 
 pub returns : goal.returns
 unfolding marks_field
@@ -20,8 +19,8 @@ returns c =
     let e = c.hex-k.ensures in
     let k = c.hex-k.result in
     let n = c.args.marked in
-    let m = fewest_most 16 8 n k 8 (omega arith) e.1.0 (omega arith) (omega arith) in
-    let eight : k ≡ 8 = omega (arith, e.1.0.0) in
-    let text = e.1.1 ∙ ap (λ (j : ℕ). last_digits 16 j n) eight in
+    let m = fewest_most 16 8 n k 8 (omega arith) e.len (omega arith) (omega arith) in
+    let eight : k ≡ 8 = omega (arith, e.len.0) in
+    let text = e.digits ∙ ap (λ (j : ℕ). last_digits 16 j n) eight in
     let p = put_then c.put-next.ensures (put_same text c.put.ensures) in
-    (p, omega (arith, p.end))
+    record { put = p; upper_bound = omega (arith, p.end) }
