@@ -66,11 +66,11 @@ module _ {w₀ w : List ℕ} {q o n : ℕ} {ms : List Message} {query : Rank.Que
   no_others i h =
       ⊎_elim
       (λ l. ap (λ (xs : List ℕ). get_or xs i 0) all_eight
-          ∙ get_or-take 8 (drop (thresholds_in q) w) i 0 l
-          ∙ get_or-drop (thresholds_in q) w i 0
-          ∙ held.no_threshold i h l)
+      ∙ get_or-take 8 (drop (thresholds_in q) w) i 0 l
+      ∙ get_or-drop (thresholds_in q) w i 0
+      ∙ held.no_threshold i h l)
       (λ g. ap (λ (xs : List ℕ). get_or xs i 0) all_eight
-          ∙ get_or-eq_default (take 8 (drop (thresholds_in q) w)) 0 (omega (arith, length-take 8 (drop (thresholds_in q) w))))
+      ∙ get_or-eq_default (take 8 (drop (thresholds_in q) w)) 0 (omega (arith, length-take 8 (drop (thresholds_in q) w))))
       (lt_or_ge i 8)
 
 -- ---- the flags

@@ -14,6 +14,6 @@ loop-j-preserved c =
     let known = c.requires.1 in
     let e = c.listed.ensures.1 in
     elim c.if-i-listed.branch [
-      then-i-listed w ↦ rw (w.queries-is, w.n-is) (choosing_kept known (omega arith) refl c.loop-j.invariant (omega arith))
-    | else-i-listed w ↦ rw (w.queries-is, w.n-is) (choosing_passed known (omega arith) refl c.loop-j.invariant (omega arith))
+      | then-i-listed w ↦ rw (w.queries-is, w.n-is) (choosing_kept known (omega arith) refl c.loop-j.invariant (omega arith))
+      | else-i-listed w ↦ rw (w.queries-is, w.n-is) (choosing_passed known (omega arith) refl c.loop-j.invariant (omega arith))
     ]

@@ -15,6 +15,6 @@ loop-i-preserved c =
     let l = c.loop-i in
     let a = c.args in
     elim c.if-cap-column.branch [
-      then-cap-column w ↦ (omega arith, omega arith, rw w.count-is (over_hit a.column.now l.i a.cap (omega arith) l.invariant.2 (omega arith)))
-    | else-cap-column w ↦ (omega arith, omega arith, rw w.count-is (over_miss a.column.now l.i a.cap (omega arith) l.invariant.2 (omega arith)))
+      | then-cap-column w ↦ (omega arith, omega arith, rw w.count-is (over_hit a.column.now l.i a.cap (omega arith) l.invariant.2 (omega arith)))
+      | else-cap-column w ↦ (omega arith, omega arith, rw w.count-is (over_miss a.column.now l.i a.cap (omega arith) l.invariant.2 (omega arith)))
     ]
