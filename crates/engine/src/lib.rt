@@ -525,7 +525,7 @@ fn unanswered(number: u32) -> Searched
 
 // The list that registering the frame's query would give, and the postings that a search for it reads.
 pub fn search(state: &[u8], bytes: &[u8]) -> Searched
-    ensures { SearchPost state.now bytes.now result × (state.now ≡ state.now) }
+    ensures { SearchPost state.entry.now bytes.now result × (state.exit.now ≡ state.entry.now) }
 {
     if state.len() != layout::STATE {
         return unanswered(12);
@@ -569,7 +569,7 @@ fn uncompared(number: u32) -> Compared
 // How close the message in force with the serial is to the query under the number. The slot of a cancelled message has a number above all serials in the
 // place of its own: so what is above them isn't looked for.
 pub fn closeness(state: &[u8], serial: u32, number: u32) -> Compared
-    ensures { ClosenessPost state.now serial number result × (state.now ≡ state.now) }
+    ensures { ClosenessPost state.entry.now serial number result × (state.exit.now ≡ state.entry.now) }
 {
     if state.len() != layout::STATE {
         return uncompared(12);
@@ -597,7 +597,7 @@ pub fn closeness(state: &[u8], serial: u32, number: u32) -> Compared
 
 // The lines of one screen for all queries, into out: number, serial and score of each.
 pub fn screen(state: &[u8], lines: u32, out: &mut [u8]) -> Found
-    ensures { ScreenPost state.now lines out.old result out.new × (state.now ≡ state.now) }
+    ensures { ScreenPost state.entry.now lines out.old result out.new × (state.exit.now ≡ state.entry.now) }
 {
     if state.len() != layout::STATE {
         return Found {

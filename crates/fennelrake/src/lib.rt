@@ -85,7 +85,7 @@ pub extern "C" fn fennelrake_list(state: &[u8], number: u32, answer: &mut [u8]) 
 // The answer: that of a list, for the frame's query as if it were registered, and the postings read.
 #[unsafe(no_mangle)]
 pub extern "C" fn fennelrake_search(state: &[u8], bytes: &[u8], answer: &mut [u8]) -> u32
-    ensures { SearchEntry state.now bytes.now answer.old result answer.new × (state.now ≡ state.now) }
+    ensures { SearchEntry state.entry.now bytes.now answer.old result answer.new × (state.exit.now ≡ state.entry.now) }
 {
     if answer.len() < SEARCH_ANSWER {
         return 12;
@@ -115,7 +115,7 @@ pub extern "C" fn fennelrake_closeness(
     number: u32,
     answer: &mut [u8],
 ) -> u32
-    ensures { ClosenessEntry state.now serial number answer.old result answer.new × (state.now ≡ state.now) }
+    ensures { ClosenessEntry state.entry.now serial number answer.old result answer.new × (state.exit.now ≡ state.entry.now) }
 {
     if answer.len() < CLOSENESS_ANSWER {
         return 12;
@@ -148,7 +148,7 @@ pub extern "C" fn fennelrake_postings(state: &[u8], term: u32, out: &mut [u8]) -
 // the 32, and how many there are.
 #[unsafe(no_mangle)]
 pub extern "C" fn fennelrake_screen(state: &[u8], lines: u32, out: &mut [u8]) -> u64
-    ensures { ScreenPost state.now lines out.old (heard_found result) out.new × (state.now ≡ state.now) }
+    ensures { ScreenPost state.entry.now lines out.old (heard_found result) out.new × (state.exit.now ≡ state.entry.now) }
 {
     told(engine::screen(state, lines, out))
 }

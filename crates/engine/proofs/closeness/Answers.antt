@@ -2,7 +2,6 @@
 use Prim.Native.Nat.{◌<◌}
 use native.Mathlib.Omega.{arith}
 use mathlib.Core.Path.{refl, sym, ◌∙◌}
-use borrow.Author.Tests.{not-true, not-false}
 use Rattle.paper.specs.Frame.{numbers}
 use Rattle.memory.specs.Words.{words}
 use Rattle.engine.proofs.RepresentsLaws.{registered_below}
@@ -20,18 +19,17 @@ returns-then-j-ge-SLOTS c =
     (closeness_unknown _ _ _ (omega arith) (omega arith) c.load-cursor.ensures c.slot_of-j.ensures _ (omega arith) c.uncompared-then-j-ge-SLOTS.ensures, refl)
 
 pub returns-then-not-used : goal.returns-then-not-used
-returns-then-not-used c =
-    (
-      closeness_unused _ _ _ (omega arith) (omega arith) c.load-cursor.ensures c.slot_of-j.ensures (omega arith) c.registered-used.ensures _
-          (not-true _ c.if-not-used.true) c.uncompared-then-not-used.ensures,
-      refl,
-    )
+returns-then-not-used c = (
+  closeness_unused _ _ _ (omega arith) (omega arith) c.load-cursor.ensures c.slot_of-j.ensures (omega arith) c.registered-used.ensures _
+      c.if-not-used.true c.uncompared-then-not-used.ensures,
+  refl,
+)
 
 pub load_query-query-requires : goal.load_query-query-requires
 load_query-query-requires c =
     let below : c.args.number < numbers =
     let a = c.args in
-    registered_below (words a.state.now) a.number (sym c.registered-used.ensures ∙ not-false _ c.if-not-used.false) in
+    registered_below (words a.state.now) a.number (sym c.registered-used.ensures ∙ c.if-not-used.false) in
     (omega arith, below)
 
 pub of-close-requires : goal.of-close-requires
@@ -40,9 +38,8 @@ of-close-requires c =
     (omega arith, omega arith, range.n_most, λ i h. range.weights_most i (omega (arith, range.n_most)))
 
 pub returns : goal.returns
-returns c =
-    (
-      closeness_right _ _ _ (omega arith) (omega arith) c.load-cursor.ensures c.slot_of-j.ensures (omega arith) c.registered-used.ensures
-          (not-false _ c.if-not-used.false) c.load_query-query.ensures c.of-close.ensures,
-      refl,
-    )
+returns c = (
+  closeness_right _ _ _ (omega arith) (omega arith) c.load-cursor.ensures c.slot_of-j.ensures (omega arith) c.registered-used.ensures
+      c.if-not-used.false c.load_query-query.ensures c.of-close.ensures,
+  refl,
+)

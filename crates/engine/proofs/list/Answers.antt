@@ -2,7 +2,6 @@
 use native.Mathlib.Omega.{arith}
 use mathlib.Core.Path.{sym, ◌∙◌}
 use borrow.Author.Rules.{rules}
-use borrow.Author.Tests.{not-true, not-false}
 use Rattle.memory.specs.Words.{words}
 use Rattle.engine.proofs.RepresentsLaws.{registered_below}
 use Rattle.engine.proofs.ListLaws.{list_not_lent, list_unused, list_right}
@@ -13,12 +12,12 @@ returns-then-state-ne-STATE c = list_not_lent _ _ (λ e. omega arith) c.none.ens
 
 pub returns-then-not-registered : goal.returns-then-not-registered
 returns-then-not-registered c =
-    list_unused _ _ (omega arith) c.registered.ensures (not-true _ c.if-not-registered.true) c.none-then-not-registered.ensures
+    list_unused _ _ (omega arith) c.registered.ensures c.if-not-registered.true c.none-then-not-registered.ensures
 
 pub load_list-requires : goal.load_list-requires
 load_list-requires c =
     let a = c.args in
-    (omega arith, registered_below (words a.state.now) a.number (sym c.registered.ensures ∙ not-false _ c.if-not-registered.false))
+    (omega arith, registered_below (words a.state.now) a.number (sym c.registered.ensures ∙ c.if-not-registered.false))
 
 pub returns : goal.returns
-returns c = list_right _ _ (omega arith) c.registered.ensures (not-false _ c.if-not-registered.false) (search rules) c.of.ensures
+returns c = list_right _ _ (omega arith) c.registered.ensures c.if-not-registered.false (search rules) c.of.ensures

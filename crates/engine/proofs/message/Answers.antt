@@ -11,19 +11,12 @@ returns-then-time-before c = λ g e. search late
 pub returns-then-has_serial : goal.returns-then-has_serial
 returns-then-has_serial c = λ g e. search known
 
-pub join-requires : goal.join-requires
-join-requires c =
-    (
-  (search rules, c.requires.0.1, c.requires.1.0.1),
-  (
-    search rules,
-    (
-      search rules,
-      search rules,
-      room_left c.capacity_of.ensures c.roomy-after.ensures (omega arith),
-      moved_trans c.advanced-aged.ensures.moved c.roomy-after.ensures.moved,
-    ),
-  ),
+pub join-requires-clause-oldest_lt_slots : goal.join-requires-clause-oldest_lt_slots
+join-requires-clause-oldest_lt_slots c = (
+  search rules,
+  search rules,
+  room_left c.capacity_of.ensures c.roomy-after.ensures (omega arith),
+  moved_trans c.advanced-aged.ensures.moved c.roomy-after.ensures.moved,
 )
 
 -- On the way back: `room` is where the oldest made room, `seen` where the serial was looked for, `aged` where past messages left.

@@ -2,22 +2,19 @@
 use Prim.Native.Nat.{ℕ, ◌+◌, ◌-◌}
 use native.Mathlib.Omega.{arith}
 use mathlib.Core.Path.{◌≡◌, refl, ap, ◌∙◌}
-use mathlib.Core.Logic.{⊎_elim}
 use lib.ListN.{length}
 use Rattle.paper.specs.Frame.{numbers}
 use Rattle.memory.specs.Words.{words}
 use Rattle.engine.proofs.MarkLaws.{marks_fit}
 use Rattle.engine.proofs.PassedLaws.{passed_none, turn_unused, turn_unreached, turn_reached}
 use Rattle.engine.proofs.pass.Goals as goal
+use Rattle.engine.proofs.pass.Goals.{then-in_use+then-update, then-in_use+else-update, else-in_use}
 
 pub loop-q-init : goal.loop-q-init
 loop-q-init c = (omega arith, refl, passed_none _)
 
 pub in_use-requires : goal.in_use-requires
 in_use-requires c = (omega arith, omega arith)
-
-pub update-requires : goal.update-requires
-update-requires c = ((omega arith, omega arith, omega arith, omega arith, omega arith), (omega arith, omega arith))
 
 pub overflow_add-marks : goal.overflow_add-marks
 overflow_add-marks c =
@@ -29,25 +26,24 @@ pub loop-q-preserved : goal.loop-q-preserved
 loop-q-preserved c =
     let l = c.loop-q in
     let used = c.in_use.ensures in
-    ⊎_elim
-    (λ u. (
-      omega arith,
-      omega (arith, ap length u.7),
-      turn_reached l.q _ _ (omega arith) (omega arith) l.invariant.2 used u.0.taken u.2.ensures u.5.taken (ap words u.7)
-          (u.8 ∙ ap (λ (x : ℕ). l.marks + x) u.6.ensures),
-    ))
-    (⊎_elim
-    (λ u. (
-      omega arith,
-      omega (arith, ap length u.6),
-      turn_unreached l.q _ _ (omega arith) (omega arith) l.invariant.2 used u.0.taken u.2.ensures u.5.left (ap words u.6) u.7,
-    ))
-    (λ u. (
-      omega arith,
-      omega (arith, ap length u.1),
-      turn_unused l.q _ _ (omega arith) (omega arith) l.invariant.2 used u.0.left (ap words u.1) u.2,
-    )))
-    c.if-in_use.branch
+    elim c.if-in_use.branch [
+      | then-in_use+then-update u ↦ (
+        omega arith,
+        omega (arith, ap length u.state-is),
+        turn_reached l.q _ _ (omega arith) (omega arith) l.invariant.2 used u.if-in_use.true u.update.ensures u.if-update.true (ap words u.state-is)
+            (u.marks-is ∙ ap (λ (x : ℕ). l.marks + x) u.pow2-marks.ensures),
+      )
+      | then-in_use+else-update u ↦ (
+        omega arith,
+        omega (arith, ap length u.state-is),
+        turn_unreached l.q _ _ (omega arith) (omega arith) l.invariant.2 used u.if-in_use.true u.update.ensures u.if-update.false (ap words u.state-is) u.marks-is,
+      )
+      | else-in_use u ↦ (
+        omega arith,
+        omega (arith, ap length u.state-is),
+        turn_unused l.q _ _ (omega arith) (omega arith) l.invariant.2 used u.if-in_use.false (ap words u.state-is) u.marks-is,
+      )
+    ]
 
 pub shape_of-state : goal.shape_of-state
 shape_of-state c = c.loop-q.invariant.1

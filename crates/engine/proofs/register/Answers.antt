@@ -10,8 +10,5 @@ returns-then-time-get c = search late
 pub returns-then-in_use : goal.returns-then-in_use
 returns-then-in_use c = search (rules, number_taken)
 
-pub register-requires : goal.register-requires
-register-requires c = ((search rules, search rules, search rules, search rules), ((search rules, search rules, search rules, search rules), search rules))
-
 pub returns : goal.returns
 returns c = search (rules, register_done)

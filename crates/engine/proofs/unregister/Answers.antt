@@ -1,5 +1,4 @@
 -- `unregister` meets its contract. Assumes nothing.
-use borrow.Author.Tests.{not-true, not-false}
 use Rattle.engine.proofs.KindLaws.{late}
 use Rattle.engine.proofs.NumberLaws.{number_free, unregister_done}
 use borrow.Author.Rules.{rules}
@@ -9,7 +8,7 @@ pub returns-then-time-get : goal.returns-then-time-get
 returns-then-time-get c = search late
 
 pub returns-then-not-in_use : goal.returns-then-not-in_use
-returns-then-not-in_use c = search (rules, number_free, not-true)
+returns-then-not-in_use c = search (rules, number_free)
 
 pub returns : goal.returns
-returns c = search (rules, unregister_done, not-false)
+returns c = search (rules, unregister_done)

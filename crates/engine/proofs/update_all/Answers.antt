@@ -12,7 +12,7 @@ returns c =
       coming = _;
       going = _;
       tables = record { new = table_of c.raise_one.ensures.1; old = table_leaving (words a.state.now) a.moved c.raise_all.ensures.1 c.raise_one-2.ensures.1 };
-      c = _;
+      silent = _;
       silenced = c.silence.ensures;
-      c = c.pass.ensures;
+      passed = c.pass.ensures;
     }

@@ -14,9 +14,8 @@ pub returns-then-compared-ne0 : goal.returns-then-compared-ne0
 returns-then-compared-ne0 c = (closeness_refused (omega arith) (omega arith) c.closeness-compared.ensures.0, refl)
 
 pub returns : goal.returns
-returns c =
-    (
-      closeness_accepted c.closeness-compared.result (omega arith) (search rules) (search rules) c.put_big.ensures c.put_big-2.ensures
-          (omega arith) c.closeness-compared.ensures.0,
-      refl,
-    )
+returns c = (
+  closeness_accepted c.closeness-compared.result (omega arith) (search rules) (search rules) c.put_big.ensures c.put_big-2.ensures
+      (omega arith) c.closeness-compared.ensures.0,
+  refl,
+)

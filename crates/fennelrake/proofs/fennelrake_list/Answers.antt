@@ -24,6 +24,6 @@ put_list-requires c = length-take-le list_answer c.args.answer.now (omega arith)
 
 pub returns : goal.returns
 returns c =
-    list_accepted c.put_list.new.0 _ c.list-listing.result (omega arith)
+    list_accepted c.put_list.new.answer _ c.list-listing.result (omega arith)
     (omega (arith, length-take-le list_answer c.args.answer.now (omega arith))) (search rules) (search rules)
     c.put_list.ensures (omega arith) c.list-listing.ensures

@@ -20,24 +20,23 @@ returns-then-searched-ne0 c = (search_refused (omega arith) (omega arith) c.sear
 
 pub slice_bounds-put_list-end-2 : goal.slice_bounds-put_list-end-2
 slice_bounds-put_list-end-2 c =
-    let part_long : length (take list_answer c.put_big.new.0) ≡ list_answer =
-    length-take-le list_answer c.put_big.new.0 (omega (arith, ap length c.put_big.ensures ∙ put_big_length _ _ _)) in
+    let part_long : length (take list_answer c.put_big.new.s) ≡ list_answer =
+    length-take-le list_answer c.put_big.new.s (omega (arith, ap length c.put_big.ensures ∙ put_big_length _ _ _)) in
     sym part_long
 
 pub put_list-requires : goal.put_list-requires
 put_list-requires c =
-    let part_long : length (take list_answer c.put_big.new.0) ≡ list_answer =
-    length-take-le list_answer c.put_big.new.0 (omega (arith, ap length c.put_big.ensures ∙ put_big_length _ _ _)) in
+    let part_long : length (take list_answer c.put_big.new.s) ≡ list_answer =
+    length-take-le list_answer c.put_big.new.s (omega (arith, ap length c.put_big.ensures ∙ put_big_length _ _ _)) in
     part_long
 
 pub returns : goal.returns
 returns c =
-    let part_long : length (take list_answer c.put_big.new.0) ≡ list_answer =
-    length-take-le list_answer c.put_big.new.0 (omega (arith, ap length c.put_big.ensures ∙ put_big_length _ _ _)) in
+    let part_long : length (take list_answer c.put_big.new.s) ≡ list_answer =
+    length-take-le list_answer c.put_big.new.s (omega (arith, ap length c.put_big.ensures ∙ put_big_length _ _ _)) in
     let serials_long : length c.search-searched.result.list.serials ≡ most_listed = search rules in
-    let scores_long : length c.search-searched.result.list.scores ≡ most_listed = search rules in
-    (
-      search_accepted c.put_list.new.0 _ c.put_big.new.0 c.search-searched.result (omega arith) (search rules) c.put_big.ensures
+    let scores_long : length c.search-searched.result.list.scores ≡ most_listed = search rules in (
+      search_accepted c.put_list.new.answer _ c.put_big.new.s c.search-searched.result (omega arith) (search rules) c.put_big.ensures
           (omega (arith, part_long)) serials_long scores_long c.put_list.ensures (omega arith) c.search-searched.ensures.0,
       refl,
     )

@@ -64,8 +64,7 @@ overflow_add-next-in-loop-i-2 c =
 pub loop-i-preserved : goal.loop-i-preserved
 loop-i-preserved c =
     let l = c.loop-i in
-    let a = c.args in
-    (
+    let a = c.args in (
       omega arith,
       rw (l.invariant.1, add-one l.i, suc-mul l.i (10 + a.width)) (omega arith),
       omega arith,
