@@ -97,12 +97,6 @@ module _ (fs : List ℕ) (j : ℕ) (b : Bool) (r : List ℕ) (h : j < slots) (pu
   other_flag : (i : ℕ) → (In i (arriving j) → ⊥) → flag_of r i ≡ flag_of fs i
   other_flag i out = put i ∙ ap (λ (t : Bool). cond t b (flag_of fs i)) (ne_eqb i j (λ e. out (rw (lt-ltb j slots h) (inl e))))
 
-pub one_cleared : (fs : List ℕ) (j : ℕ) (r : List ℕ) → j < slots → WithFlag fs j false r → WithoutOne fs j r
-one_cleared fs j r h put = record { gone = own_flag fs j false r h put; others = other_flag fs j false r h put }
-
-pub none_cleared : {fs : List ℕ} {j : ℕ} → slots ≤ j → WithoutOne fs j fs
-none_cleared {fs} {j} h = record { gone = λ i m. absurd (omega (arith, (in_arriving i j m).1)); others = λ i out. refl }
-
 -- the slots that left, then the cancelled one, then the newest
 module _ (w : List ℕ) (q : ℕ) (m : Move) {later rest : List ℕ} (left : Without (flags w q) m.gone m.departed later)
     (one : WithoutOne later m.cancelled rest) where

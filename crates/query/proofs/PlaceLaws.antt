@@ -5,18 +5,18 @@ use mathlib.Core.Path.{◌≡◌, refl, sym, ap, ap₂, ◌∙◌}
 use mathlib.Core.List.{List, [], ◌∷◌, ◌++◌, map}
 use lib.ListN.{length, get_or, take, drop, length-take, length-drop, get_or-map}
 use lib.Seq.{get_or-take, get_or-drop}
-use borrow.Author.Tests.{eq-eqb, ne_eqb, lt-leb, le-leb, le-ltb, lt-ltb}
+use borrow.Author.Tests.{eq-eqb, le-leb, le-ltb, lt-ltb}
 use Rattle.paper.specs.Frame.{numbers, most_listed}
 use Rattle.paper.specs.Rank.{key_factor}
 use Rattle.paper.specs.Layout.{slots, state_words, listed_in, serials_in, keys_in, record_at}
 use Rattle.rank.specs.declared.Ranked.{Ranked}
-use Rattle.rank.specs.Listing.{Keyed, keyed_with, keyed_of, line_with, shown, last_of, Tidy, Kept, Removed, grown, without, withouts}
+use Rattle.rank.specs.Listing.{Keyed, keyed_with, keyed_of, line_with, shown, last_of, Tidy, Removed, without, withouts}
 use Rattle.rank.proofs.LineLaws.{length_listed_lesser, listed_at_lem, last_listed}
 use Rattle.window.specs.Slot.{slot, next, ring}
 use Rattle.window.proofs.RingLaws.{ring_step, ring_none}
 use Rattle.query.specs.declared.Move.{Move}
 use Rattle.query.specs.Record.{keys, listed_at}
-use Rattle.query.specs.Post.{Least, WithoutGone, key_in, WithNewest}
+use Rattle.query.specs.Post.{Least, WithoutGone}
 
 -- ---- the list in the record
 
@@ -64,15 +64,7 @@ module _ (w : List ℕ) (q : ℕ) (long : length w ≡ state_words) (number : q 
         (omega (arith, sixteen (serials_in q) (omega arith))) (omega (arith, sixteen (keys_in q) (omega arith))))
         ∙ word_at (keys_in q) (n - 1) (omega arith))
 
-    -- one that isn't full, and one that is
-    pub least_short : (n ≡ get_or w (record_at q) 0 → 0 < n → ⊥) → Least w q key_factor
-    least_short short = record {
-      is = λ query terms says most.
-          let e = says.k in
-          let p = terms.k_least in
-          rw (ne_eqb (length (keys w q)) query.k (λ z. short (omega arith) (omega arith)));
-    }
-
+    -- of a full list
     pub least_full : n ≡ get_or w (record_at q) 0 → 0 < n → {r : ℕ} → r ≡ get_or w (keys_in q + (n - 1)) 0 → Least w q r
     least_full full some read = record {
       is = λ query terms says most.
@@ -138,29 +130,4 @@ module _ {w : List ℕ} (m : Move) {l : Ranked} {j n : ℕ} {r : Ranked} (p : Le
     list_is =
         rw (le-leb (least / key_factor) went high, le-ltb m.cancelled slots h)
         (departed_out ∙ sym (withouts_append (serials_of w m.gone m.departed) [] (keyed_of l)));
-  }
-
-pub none_leave : {w : List ℕ} {m : Move} {went least : ℕ} {l : Ranked} → went < least / key_factor → WithoutGone w m went least l l
-none_leave {went = went} {least} h = record { within = omega arith; tidy = λ t. t; list_is = rw (lt-leb (least / key_factor) went h) }
-
--- ---- what came goes in
-
-module _ {w : List ℕ} {newest came k least : ℕ} {l : Ranked} (most : l.count ≤ most_listed) where
-  pub none_comes : slots ≤ newest → WithNewest w newest came k least l l
-  none_comes h = record { within = most; tidy = λ t. t; list_is = λ _. rw (le-ltb newest slots h) }
-
-  pub too_low : newest < slots → {key : ℕ} → key ≡ key_in w newest came → key < least → WithNewest w newest came k least l l
-  too_low h e c = record { within = most; tidy = λ t. t; list_is = λ _. rw (lt-ltb newest slots h, lt-leb least (key_in w newest came) (omega arith)) }
-
-  pub too_many : k < l.count → WithNewest w newest came k least l l
-  too_many h = record { within = most; tidy = λ t. t; list_is = λ few. absurd (omega arith) }
-
-  pub one_comes : {serial key : ℕ} {r : Ranked} → newest < slots → key ≡ key_in w newest came → least ≤ key → k ≤ most_listed
-      → serial ≡ (slot w newest).serial → Kept k serial key l r → WithNewest w newest came k least l r
-  one_comes h f c top e kept = record {
-    within = let a = kept.within in omega arith;
-    tidy = kept.tidy;
-    list_is = λ _.
-        rw (lt-ltb newest slots h, le-leb least (key_in w newest came) (omega arith))
-        (kept.list ∙ ap₂ (λ (s v : ℕ). grown k (keyed_with s v) (keyed_of l)) e f);
   }

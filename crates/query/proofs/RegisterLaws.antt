@@ -4,10 +4,9 @@ use native.Mathlib.Omega.{arith}
 use mathlib.Core.Path.{◌≡◌, refl, sym, ap, ◌∙◌}
 use mathlib.Core.Bool.{Bool, true, false}
 use mathlib.Core.List.{List}
-use lib.ListN.{length, get_or, set, length-set, get_or-eq_default}
+use lib.ListN.{length, get_or, set, get_or-eq_default}
 use lib.Seq.{get_or-set_same, get_or-set_other}
 use lib.Dec.{ltb}
-use borrow.Author.Count.{below_more}
 use Rattle.paper.specs.Frame.{Pair, numbers, most_terms}
 use borrow.Author.Tests.{ltb-true, ltb-false}
 use Rattle.paper.specs.Rank as Rank
@@ -48,20 +47,6 @@ pub record Packing (n : ℕ) (ts us ps : List ℕ) (i : ℕ) : Type 0 where
   pub wide : length ps ≡ most_terms
   pub done : (j : ℕ) → j < i → get_or ps j 0 ≡ get_or ts j 0 * weight_limit + get_or us j 0
   pub rest : (j : ℕ) → i ≤ j → get_or ps j 0 ≡ 0
-
-pub packing_more : {n : ℕ} {ts us ps : List ℕ} {i : ℕ} → n ≤ most_terms → i < n → Packing n ts us ps i
-    → Packing n ts us (set ps i (get_or ts i 0 * weight_limit + get_or us i 0)) (i + 1)
-packing_more {n} {ts} {us} {ps} {i} most h f =
-    let v : ℕ = get_or ts i 0 * weight_limit + get_or us i 0 in
-    record {
-      bound = omega arith;
-      wide = length-set ps i v ∙ f.wide;
-      done =
-          below_more (λ (j : ℕ). get_or (set ps i v) j 0 ≡ get_or ts j 0 * weight_limit + get_or us j 0) i
-          (λ j g. get_or-set_other ps i j v 0 (λ e. omega arith) ∙ f.done j g)
-          (get_or-set_same ps i v 0 (omega (arith, f.wide)));
-      rest = λ j g. get_or-set_other ps i j v 0 (λ e. omega arith) ∙ f.rest j (omega arith);
-    }
 
 -- past the terms the pair is 0 and 0
 no_pair : (qs : List Pair) (i : ℕ) → length qs ≤ i → 0 ≡ term_at qs i * weight_limit + weight_at qs i

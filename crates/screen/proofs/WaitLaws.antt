@@ -14,7 +14,7 @@ use Rattle.paper.specs.Screen.{upward}
 use Rattle.paper.proofs.SortLaws.{select_append}
 use Rattle.paper.proofs.ScreenLaws.{upward_length, upward_at}
 use Rattle.query.specs.Record.{keys}
-use Rattle.screen.specs.Post.{waits, QueryNumbers, StillWaiting}
+use Rattle.screen.specs.Post.{waits, QueryNumbers}
 
 -- ---- every number
 
@@ -23,18 +23,6 @@ pub record Numbering (q : ℕ) (a : List ℕ) : Type 0 where
   pub long : length a ≡ numbers
   pub most : q ≤ numbers
   pub same : (j : ℕ) → j < q → get_or a j 0 ≡ j
-
-pub numbering_none : {q : ℕ} {a : List ℕ} → q ≡ 0 → length a ≡ numbers → Numbering q a
-numbering_none z l = record { long = l; most = omega arith; same = λ j h. absurd (omega arith) }
-
-pub numbering_more : {q : ℕ} {a : List ℕ} → q < numbers → Numbering q a → Numbering (q + 1) (set a q q)
-numbering_more {q} {a} h p = record {
-  long = length-set a q q ∙ p.long;
-  most = omega arith;
-  same =
-      below_more (λ (j : ℕ). get_or (set a q q) j 0 ≡ j) q (λ j k. get_or-set_other a q j q 0 (omega arith) ∙ p.same j k)
-      (get_or-set_same a q q 0 (omega (arith, p.long)));
-}
 
 pub numbering_all : {q : ℕ} {a : List ℕ} → numbers ≤ q → Numbering q a → a ≡ upward 0 numbers
 numbering_all {q} {a} h p =
@@ -106,12 +94,3 @@ module _ {w : List ℕ} {i count : ℕ} {ns a : List ℕ} {n j q : ℕ} (known :
     later = λ k m. p.later k (omega arith);
     right = p.right ∙ sym (one_more ∙ rw (le-ltb i (length (keys w q)) none) (append-nil (select (waits w i) (take j ns))));
   }
-
-pub choosing_all : {w : List ℕ} {i count : ℕ} {ns a : List ℕ} {n j : ℕ} → count ≤ numbers → count ≤ j → Choosing w i count ns a n j
-    → StillWaiting w i ns count a n
-choosing_all {w} {i} {count} {ns} {a} {n} {j} most h p =
-    let e : j ≡ count = omega (arith, p.bound) in
-    record {
-      known = record { long = p.long; most = omega (arith, p.few, p.bound); below = p.below };
-      right = p.right ∙ ap (λ (k : ℕ). select (waits w i) (take k ns)) e;
-    }

@@ -1,62 +1,19 @@
--- Columns of impacts: filled, gone through from the first to the last, and summed term by term. Assumes nothing.
+-- Columns of impacts: gone through from the first to the last, and summed term by term. Assumes nothing.
 use Prim.Native.Nat.{ℕ, ◌+◌, ◌-◌, ◌*◌, ◌≤◌, ◌<◌, max}
-use native.Mathlib.Nat.{mul-le-mul, eq-or-lt_of_le}
+use native.Mathlib.Nat.{mul-le-mul}
 use native.Mathlib.Numerals.{add-one}
 use native.Mathlib.Omega.{arith}
-use mathlib.Core.Path.{◌≡◌, sym, ap, ◌∙◌}
+use mathlib.Core.Path.{◌≡◌}
 use mathlib.Core.Bool.{cond}
-use mathlib.Core.Logic.{⊎_elim}
-use mathlib.Core.List.{List, [], ◌∷◌, ◌++◌}
-use lib.ListN.{length, get_or, take, drop, length-append, length-drop}
-use lib.Seq.{take-suc, take_at, take-append_seam, length-take-le, get_or-take, get_or-append-add}
+use mathlib.Core.List.{List, [], ◌∷◌}
+use lib.ListN.{length, get_or, take, drop}
+use lib.Seq.{take-suc}
 use lib.Dec.{leb}
 use borrow.Author.Tests.{lt-ltb, le-ltb}
-use Rattle.paper.specs.Frame.{most_terms}
 use Rattle.paper.specs.Layout.{slots}
-use Rattle.search.specs.Post.{Column, Columns, column}
+use Rattle.search.specs.Post.{column}
 use Rattle.search.specs.Cut.{cap, up_to, over, sum_at, read_at}
 use Rattle.search.proofs.SumLaws.{up_to_append, over_append}
-
--- ---- a column put in its place
-
-module _ (xs ys rest : List ℕ) (a : ℕ) (h : a ≤ length xs) where
-  abbrev whole : List ℕ
-  whole = take a xs ++ (ys ++ rest)
-
-  front : length (take a xs) ≡ a
-  front = length-take-le a xs h
-
-  pub put_below : (j : ℕ) → j < a → get_or whole j 0 ≡ get_or xs j 0
-  put_below j l = sym (get_or-take a whole j 0 l) ∙ ap (λ (x : List ℕ). get_or x j 0) (take_at (take a xs) (ys ++ rest) a front) ∙ get_or-take a xs j 0 l
-
-  pub put_inside : (i : ℕ) → i < length ys → get_or whole (a + i) 0 ≡ get_or ys i 0
-  put_inside i l =
-      ap (λ (n : ℕ). get_or whole (n + i) 0) (sym front)
-      ∙ get_or-append-add (take a xs) (ys ++ rest) i 0
-      ∙ sym (get_or-take (length ys) (ys ++ rest) i 0 l)
-      ∙ ap (λ (x : List ℕ). get_or x i 0) (take-append_seam ys rest)
-
--- one column more, of as many places as the part that was lent
-module _ (rows : List ℕ) (m p : ℕ) (cols ys : List ℕ) {k n : ℕ} (few : m ≤ slots) (inside : p < most_terms) (c : Columns rows m p cols)
-    (lent : k ≡ m) (size : n ≡ m) (y : Column rows n p ys) where
-  abbrev start : ℕ
-  start = slots * p
-
-  abbrev rest : List ℕ
-  rest = drop k (drop start cols)
-
-  room : start ≤ length cols
-  room = omega (arith, c.long)
-
-  pub column_turn : Columns rows m (p + 1) (take start cols ++ (ys ++ rest))
-  column_turn = record {
-    long = simp (length-append, length-drop) (omega (arith, c.long, y.long, length-take-le start cols room));
-    are = λ q i l h.
-        ⊎_elim
-        (λ e. rw e (put_inside cols ys rest start room i (omega (arith, y.long)) ∙ y.are i (omega arith)))
-        (λ b. put_below cols ys rest start room (slots * q + i) (omega arith) ∙ c.are q i b h)
-        (eq-or-lt_of_le {n = q} {m = p} (omega arith));
-  }
 
 -- ---- a column read: the part that is lent
 
@@ -66,9 +23,6 @@ module _ (cols : List ℕ) (m p : ℕ) where
 
   pub part_is : part ≡ column cols m p
   part_is = let e : slots * p + m - slots * p ≡ m = omega arith in rw e
-
-  pub part_long : slots * p + m ≤ length cols → length part ≡ m
-  part_long h = ap length part_is ∙ length-take-le m (drop (slots * p) cols) (simp length-drop (omega arith))
 
 -- ---- one impact more
 

@@ -17,28 +17,14 @@ kept_full {had} {has} {k} e f full = go (eqb has k) refl
     go true u = eqb-true has k u
     go false u = absurd (false≢true (sym f ∙ e ∙ ap₂ (λ (x y : Bool). x && not y) (eq-eqb had k full) u))
 
-pub settle-requires : goal.settle-requires
-settle-requires c = record {
-  state_len = search rules;
-  in_range = c.load_query-query.ensures.in_range;
-  by_index = c.load_thresholds-thresholds.ensures.in_scale;
-}
-
-pub retune-requires : goal.retune-requires
-retune-requires c = record {
-  state_len = search rules;
-  in_range = c.load_query-query.ensures.in_range;
-  count_le_most_listed = (c.with_newest-next.ensures.within, c.load_thresholds-thresholds.ensures.in_scale);
-}
-
 pub returns-then-both : goal.returns-then-both
 returns-then-both c = changed_settled c.load_query-query.ensures c.load_thresholds-thresholds.ensures c.settle.ensures
 
 pub returns-else-both : goal.returns-else-both
 returns-else-both c =
     let sixteen : Sixteen c.load_list-list.result =
-    record { most = c.load_list-list.ensures.count_most; serials = search (rules, length_unmapped); keys = search (rules, length_unmapped) } in
+        record { most = c.load_list-list.ensures.count_most; serials = search (rules, length_unmapped); keys = search (rules, length_unmapped) } in
     let sixteen_next : Sixteen c.with_newest-next.result =
-    record { most = c.with_newest-next.ensures.within; serials = search (rules, length_unmapped); keys = search (rules, length_unmapped) } in
+        record { most = c.with_newest-next.ensures.within; serials = search (rules, length_unmapped); keys = search (rules, length_unmapped) } in
     changed_in_place c.load_query-query.ensures c.load_thresholds-thresholds.ensures c.load_list-list.ensures sixteen sixteen_next
     c.without_gone-rest.ensures c.with_newest-next.ensures (kept_full c.both.ensures c.if-both.false) c.retune.ensures

@@ -10,8 +10,5 @@ loop-i-init c = storing_none (omega arith) zeros_length
 pub loop-i-preserved : goal.loop-i-preserved
 loop-i-preserved c = zeros_more (omega arith) (omega arith) c.put.ensures c.loop-i.invariant
 
-pub shape_of-state : goal.shape_of-state
-shape_of-state c = c.loop-i.invariant.long
-
 pub returns : goal.returns
 returns c = cleared (storing_all (omega arith) c.loop-i.invariant)

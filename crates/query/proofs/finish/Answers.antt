@@ -6,16 +6,10 @@ use borrow.Author.Rules.{rules, length_unmapped}
 use Rattle.query.proofs.SettleLaws.{Sixteen, sifted_exact, finished}
 use Rattle.query.proofs.finish.Goals as goal
 
-pub sifted_rows-kept-requires : goal.sifted_rows-kept-requires
-sifted_rows-kept-requires c = record {
-  m_le_slots = (search rules, search rules, search rules, c.requires.in_range.n_most);
-  by_index = c.requires.by_index;
-}
-
 pub returns : goal.returns
 returns c =
     let sixteen : Sixteen c.args.list =
-    record { most = omega arith; serials = search (rules, length_unmapped); keys = search (rules, length_unmapped) } in
+        record { most = omega arith; serials = search (rules, length_unmapped); keys = search (rules, length_unmapped) } in
     let eight : length c.args.raised ≡ 8 = search (rules, length_unmapped) in
     let range = c.requires.in_range in
     record {

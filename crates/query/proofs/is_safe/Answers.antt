@@ -2,11 +2,8 @@
 use native.Mathlib.Omega.{arith}
 use mathlib.Core.Path.{ap₂, ◌∙◌}
 use lib.Dec.{ltb}
-use Rattle.query.proofs.LiftLaws.{in_limits_lem, secure_zero, secure_short, secure_full}
+use Rattle.query.proofs.LiftLaws.{secure_zero, secure_short, secure_full}
 use Rattle.query.proofs.is_safe.Goals as goal
-
-pub weighted-sum-requires : goal.weighted-sum-requires
-weighted-sum-requires c = in_limits_lem c.args.query c.args.thresholds c.requires.in_range c.requires.count_le_most_listed.1
 
 pub returns-then-sum-eq0 : goal.returns-then-sum-eq0
 returns-then-sum-eq0 c = let a = c.args in secure_zero a.query a.thresholds a.list (omega arith)

@@ -2,19 +2,8 @@
 use native.Mathlib.Omega.{arith}
 use Rattle.memory.specs.Words.{words}
 use Rattle.memory.proofs.WordLaws.{words_length}
-use Rattle.query.proofs.PlaceLaws.{least_short, least_full}
+use Rattle.query.proofs.PlaceLaws.{least_full}
 use Rattle.query.proofs.least.Goals as goal
-
-pub returns-then-count-eq0 : goal.returns-then-count-eq0
-returns-then-count-eq0 c =
-    let a = c.args in
-    least_short (words a.state.now) a.q (omega (arith, words_length a.state.now)) (omega arith) c.listed-count.ensures.1 (λ e p. omega arith)
-
-pub returns-then-count-get : goal.returns-then-count-get
-returns-then-count-get c =
-    let a = c.args in
-    least_short (words a.state.now) a.q (omega (arith, words_length a.state.now)) (omega arith) c.listed-count.ensures.1
-    (λ e p. omega (arith, c.get.ensures))
 
 pub returns : goal.returns
 returns c =

@@ -1,21 +1,10 @@
 -- `refill` meets its contract. Assumes nothing.
 use native.Mathlib.Omega.{arith}
 use lib.ListN.{replicate}
-use borrow.Author.Rules.{rules}
 use Rattle.candidates.proofs.FlagLaws.{zero_at}
 use Rattle.candidates.proofs.RowLaws.{having_shares}
 use Rattle.query.proofs.SettleLaws.{all_flags, all_flagged, having_all, shown_all, zero_sum}
 use Rattle.query.proofs.refill.Goals as goal
-
-pub settled-done-requires : goal.settled-done-requires
-settled-done-requires c =
-    let picked = c.having-m.ensures in
-    record {
-      state_len = (search rules, search rules, omega (arith, picked.within), picked.long);
-      by_index = picked.below;
-      in_range = c.requires.in_range;
-      by_index_2 = λ i. rw (zero_at 8 i) (omega arith);
-    }
 
 pub returns : goal.returns
 returns c =

@@ -7,20 +7,10 @@ use Rattle.query.specs.Post.{Lifted}
 use Rattle.query.proofs.SettleLaws.{Sixteen, same_arrays, finished}
 use Rattle.query.proofs.retune.Goals as goal
 
-pub raised-next-requires : goal.raised-next-requires
-raised-next-requires c = record { in_range = c.requires.in_range; count_le_most_listed = c.requires.count_le_most_listed }
-
-pub sift-requires : goal.sift-requires
-sift-requires c = record {
-  state_len = search rules;
-  in_range = c.requires.in_range;
-  count_le_most_listed = c.requires.count_le_most_listed.0;
-}
-
 pub returns-then-same : goal.returns-then-same
 returns-then-same c =
     let sixteen : Sixteen c.args.list =
-    record { most = omega arith; serials = search (rules, length_unmapped); keys = search (rules, length_unmapped) } in
+        record { most = omega arith; serials = search (rules, length_unmapped); keys = search (rules, length_unmapped) } in
     let eight : length c.args.thresholds ≡ 8 = search (rules, length_unmapped) in
     let eight_next : length c.raised-next.result ≡ 8 = search (rules, length_unmapped) in
     let a = c.args in

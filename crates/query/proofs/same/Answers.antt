@@ -1,7 +1,7 @@
 -- `same` meets its contract. Assumes nothing.
 use native.Mathlib.Numerals.{add-one}
 use native.Mathlib.Omega.{arith}
-use mathlib.Core.Path.{◌≡◌, refl}
+use mathlib.Core.Path.{refl}
 use Rattle.query.specs.Post.{same_from}
 use Rattle.query.proofs.same.Goals as goal
 
@@ -12,6 +12,3 @@ loop-i-init c = (omega arith, refl)
 pub loop-i-preserved : goal.loop-i-preserved
 unfolding same_from
 loop-i-preserved c = (omega arith, rw (add-one, ← c.loop-i.invariant.1) c.both-is.ensures)
-
-pub returns : goal.returns
-returns c = let e : c.loop-i.i ≡ 8 = omega arith in rw (← e) c.loop-i.invariant.1

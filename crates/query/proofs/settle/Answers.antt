@@ -3,24 +3,10 @@ use Prim.Native.Nat.{ℕ}
 use native.Mathlib.Omega.{arith}
 use mathlib.Core.Path.{subst, ◌∙◌}
 use mathlib.Core.List.{List}
-use borrow.Author.Rules.{rules}
 use Rattle.memory.specs.Words.{words}
 use Rattle.query.specs.Post.{Refilled}
 use Rattle.query.proofs.SettleLaws.{having_picked, shown_exact}
 use Rattle.query.proofs.settle.Goals as goal
-
-pub settled-requires : goal.settled-requires
-settled-requires c =
-    let picked = c.flagged_slots-m.ensures in
-    record {
-      state_len = (search rules, search rules, omega (arith, picked.within), picked.long);
-      by_index = picked.below;
-      in_range = c.requires.in_range;
-      by_index_2 = c.requires.by_index;
-    }
-
-pub refill-requires : goal.refill-requires
-refill-requires c = record { state_len = search rules; in_range = c.requires.in_range }
 
 pub returns-then-not-settled : goal.returns-then-not-settled
 returns-then-not-settled c =

@@ -1,7 +1,6 @@
 -- `count_over` meets its contract. Assumes nothing.
 use native.Mathlib.Omega.{arith}
-use mathlib.Core.Path.{refl, ap, ◌∙◌}
-use lib.Seq.{take_all}
+use mathlib.Core.Path.{refl}
 use Rattle.search.specs.Cut.{over}
 use Rattle.search.proofs.ColumnLaws.{over_hit, over_miss}
 use Rattle.search.proofs.count_over.Goals as goal
@@ -19,9 +18,3 @@ loop-i-preserved c =
       | then-cap-column w ↦ (omega arith, omega arith, rw w.count-is (over_hit a.column.now l.i a.cap (omega arith) l.invariant.2 (omega arith)))
       | else-cap-column w ↦ (omega arith, omega arith, rw w.count-is (over_miss a.column.now l.i a.cap (omega arith) l.invariant.2 (omega arith)))
     ]
-
-pub returns : goal.returns
-returns c =
-    let l = c.loop-i in
-    let a = c.args in
-    (l.invariant.2 ∙ ap (over a.cap) (take_all l.i a.column.now (omega arith)), omega arith)

@@ -13,19 +13,9 @@ loop-high-init c =
       λ z h l. absurd (omega arith),
     )
 
-pub loop-high-preserved-then-sum_at-score : goal.loop-high-preserved-then-sum_at-score
-loop-high-preserved-then-sum_at-score c =
-    let l = c.loop-high in
-    (omega arith, l.invariant.1, (λ h. omega (arith, c.sum_at.ensures)), l.invariant.3)
-
 pub loop-high-preserved : goal.loop-high-preserved
 loop-high-preserved c =
     let l = c.loop-high in
     let a = c.args in
     let rises = sum_rises a.query.n a.query.weights (column a.columns.now a.m) in
     (omega arith, omega (arith, l.invariant.1), l.invariant.2, λ z h m. omega (arith, c.sum_at.ensures, rises _ z h))
-
-pub returns : goal.returns
-returns c =
-    let l = c.loop-high in
-    record { inside = omega (arith, l.invariant.1); below = l.invariant.2; above = λ z h m. l.invariant.3 z (omega arith) m }

@@ -1,7 +1,6 @@
 -- `next_impact` meets its contract. Assumes nothing.
 use native.Mathlib.Omega.{arith}
-use mathlib.Core.Path.{refl, ap, ◌∙◌}
-use lib.Seq.{take_all}
+use mathlib.Core.Path.{refl}
 use Rattle.search.specs.Cut.{up_to}
 use Rattle.search.proofs.ColumnLaws.{up_to_turn}
 use Rattle.search.proofs.next_impact.Goals as goal
@@ -15,9 +14,3 @@ loop-i-preserved c =
     let l = c.loop-i in
     let a = c.args in
     (omega arith, up_to_turn a.column.now l.i a.cap (omega arith) l.invariant.1 c.capped.ensures c.greater-next.ensures)
-
-pub returns : goal.returns
-returns c =
-    let l = c.loop-i in
-    let a = c.args in
-    l.invariant.1 ∙ ap (up_to a.cap) (take_all l.i a.column.now (omega arith))

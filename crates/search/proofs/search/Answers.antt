@@ -1,7 +1,7 @@
 -- `search` meets its contract. Assumes nothing.
 use Prim.Native.Nat.{◌≤◌}
 use native.Mathlib.Omega.{arith}
-use mathlib.Core.Path.{◌≡◌, refl}
+use mathlib.Core.Path.{◌≡◌}
 use borrow.Author.Rules.{rules, length_unmapped}
 use Rattle.paper.specs.Layout.{slots}
 use Rattle.candidates.proofs.FlagLaws.{zero_at}
@@ -9,9 +9,6 @@ use Rattle.candidates.proofs.RowLaws.{having_shares}
 use Rattle.query.proofs.SettleLaws.{Sixteen}
 use Rattle.search.proofs.FoundLaws.{picked_size, found_list, found_read, none_found}
 use Rattle.search.proofs.search.Goals as goal
-
-pub having-m-requires : goal.having-m-requires
-having-m-requires c = (search rules, search rules, search rules, search rules, c.requires.3.n_most)
 
 -- no slot is picked
 pub returns-then-m-eq0 : goal.returns-then-m-eq0
@@ -31,37 +28,8 @@ returns-then-m-eq0 c =
           none_found (rw zero at (having_shares (picked.right is.rising is.known))) over distinct terms is nothing long;
     }
 
-pub look-requires : goal.look-requires
-look-requires c =
-    let few : c.having-m.result ≤ slots = omega (arith, c.having-m.ensures.within, c.requires.2) in
-    let picked = c.having-m.ensures in
-    record {
-      state_len = (search rules, few, picked.long, c.requires.3.n_most);
-      rows_len = (refl, λ i. zero_at 2313 i);
-      by_index = picked.below;
-    }
-
-pub ranked_rows-list-requires : goal.ranked_rows-list-requires
-ranked_rows-list-requires c =
-    let few : c.having-m.result ≤ slots = omega (arith, c.having-m.ensures.within, c.requires.2) in
-    let picked = c.having-m.ensures in
-    let looked = c.look.ensures in
-    let fit = c.requires.3 in
-    record {
-      state_len = (search rules, few, picked.long, fit.n_most, fit.k_most);
-      rows_len = (looked.long, looked.right.narrow, fit.weights_most);
-      by_index = picked.below;
-    }
-
-pub put_columns-requires : goal.put_columns-requires
-put_columns-requires c =
-    let few : c.having-m.result ≤ slots = omega (arith, c.having-m.ensures.within, c.requires.2) in
-    (c.look.ensures.long, few, c.requires.3.n_most, search rules)
-
-pub postings_read-requires : goal.postings_read-requires
-postings_read-requires c =
-    let few : c.having-m.result ≤ slots = omega (arith, c.having-m.ensures.within, c.requires.2) in
-    (c.put_columns.ensures.long, few, c.requires.3, omega (arith, c.ranked_rows-list.ensures.within, c.requires.3.k_most))
+pub look-requires-clause-rows_len : goal.look-requires-clause-rows_len
+look-requires-clause-rows_len c = (search rules, λ i. zero_at 2313 i)
 
 pub returns : goal.returns
 returns c =

@@ -1,5 +1,5 @@
 -- `sum_at` meets its contract. Assumes nothing.
-use Prim.Native.Nat.{◌-◌, ◌*◌, ◌≤◌, ◌<◌}
+use Prim.Native.Nat.{◌*◌, ◌≤◌}
 use native.Mathlib.Omega.{arith}
 use mathlib.Core.Path.{◌≡◌, refl, ap₂, ◌∙◌}
 use lib.ListN.{get_or}
@@ -12,57 +12,13 @@ pub loop-p-init : goal.loop-p-init
 unfolding sum_at
 loop-p-init c = (omega arith, omega arith, refl)
 
-pub overflow_mul-start : goal.overflow_mul-start
-overflow_mul-start c =
-    let inside : c.loop-p.p < 8 = omega (arith, c.requires.2.n_most) in
-    omega (arith, inside)
-
-pub overflow_add-start : goal.overflow_add-start
-overflow_add-start c =
-    let inside : c.loop-p.p < 8 = omega (arith, c.requires.2.n_most) in
-    omega (arith, inside, c.requires.1)
-
-pub offset_bounds-columns-start : goal.offset_bounds-columns-start
-offset_bounds-columns-start c =
-    let inside : c.loop-p.p < 8 = omega (arith, c.requires.2.n_most) in
-    omega (arith, inside)
-
-pub slice_bounds-next_impact-end : goal.slice_bounds-next_impact-end
-slice_bounds-next_impact-end c =
-    let inside : c.loop-p.p < 8 = omega (arith, c.requires.2.n_most) in
-    omega (arith, inside, c.requires.0, c.requires.1)
-
-pub cap-requires : goal.cap-requires
-cap-requires c =
-    let inside : c.loop-p.p < 8 = omega (arith, c.requires.2.n_most) in
-    (c.requires.3, inside, c.requires.2.weights_least c.loop-p.p (omega arith))
-
-pub overflow_mul-sum : goal.overflow_mul-sum
-overflow_mul-sum c =
-    let little : get_or c.args.query.weights c.loop-p.p 0 * c.wide.result ≤ 1048576 =
-    product_most _ _ (c.requires.2.weights_most c.loop-p.p (omega arith)) c.wide.ensures.1 in
-    omega (arith, little)
-
-pub overflow_add-sum : goal.overflow_add-sum
-overflow_add-sum c =
-    let inside : c.loop-p.p < 8 = omega (arith, c.requires.2.n_most) in
-    let little : get_or c.args.query.weights c.loop-p.p 0 * c.wide.result ≤ 1048576 =
-    product_most _ _ (c.requires.2.weights_most c.loop-p.p (omega arith)) c.wide.ensures.1 in
-    omega (arith, little, inside)
-
 pub loop-p-preserved : goal.loop-p-preserved
 loop-p-preserved c =
     let little : get_or c.args.query.weights c.loop-p.p 0 * c.wide.result ≤ 1048576 =
-    product_most _ _ (c.requires.2.weights_most c.loop-p.p (omega arith)) c.wide.ensures.1 in
+        product_most _ _ (c.requires.2.weights_most c.loop-p.p (omega arith)) c.wide.ensures.1 in
     let a = c.args in
     let r = c.loop-p in
     let cols = a.columns.now in
     let e : c.next_impact.result ≡ up_to (cap a.at r.p (get_or a.query.weights r.p 0)) (column cols a.m r.p) =
-    c.next_impact.ensures ∙ ap₂ up_to c.cap.ensures (part_is cols a.m r.p) in
+        c.next_impact.ensures ∙ ap₂ up_to c.cap.ensures (part_is cols a.m r.p) in
     (omega arith, omega (arith, little), sum_turn a.query.weights (column cols a.m) a.at r.p r.invariant.2 (c.wide.ensures.0 ∙ e))
-
-pub returns : goal.returns
-returns c =
-    let l = c.loop-p in
-    let e : l.p ≡ c.args.query.n = omega arith in
-    rw (← e) l.invariant.2
