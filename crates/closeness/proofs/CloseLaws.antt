@@ -1,6 +1,6 @@
--- The sums that closeness is made of are the paper's where a slot holds a message. Assumes nothing.
+-- The sums that closeness is made of: how large they get, and that they are the paper's where a slot holds a message. Assumes nothing.
 use Prim.Native.Nat.{ℕ, zero, suc, ◌+◌, ◌*◌, ◌/◌, ◌%◌, ◌≤◌, ◌<◌, max}
-use native.Mathlib.Nat.{min-le_right, min-eq_left}
+use native.Mathlib.Nat.{mul-le-mul, min-le_right, min-eq_left}
 use native.Mathlib.Omega.{arith}
 use mathlib.Core.Path.{◌≡◌, refl, sym, ap, ◌∙◌}
 use mathlib.Core.List.{List, [], ◌∷◌}
@@ -12,7 +12,7 @@ use Rattle.paper.specs.Rank as Rank
 use Rattle.paper.specs.Sound.{Terms}
 use Rattle.paper.specs.Closeness.{whole, shared_sum, closeness}
 use Rattle.paper.proofs.ClosenessLaws.{positive_divisor, quotient_most}
-use Rattle.impact.specs.Cell.{cells_of, squares_of, cell_squares}
+use Rattle.impact.specs.Cell.{most_squares, cells_of, squares_of, cell_squares}
 use Rattle.impact.proofs.CellLaws.{count_cells, squares_cells, squares_side}
 use Rattle.rank.specs.Weights.{weighted_sum}
 use Rattle.window.specs.Slot.{Slot, stored}
@@ -21,7 +21,17 @@ use Rattle.candidates.specs.Post.{terms_of}
 use Rattle.candidates.proofs.MeasureLaws.{score_found}
 use Rattle.query.specs.Post.{Is}
 use Rattle.closeness.specs.declared.Closeness.{Closeness}
-use Rattle.closeness.specs.Post.{count_among, Counts, Divided, told_of, SlotCloseness}
+use Rattle.closeness.specs.Post.{count_among, Counts, most_shared, most_weight_squares, Divided, told_of, SlotCloseness}
+
+-- ---- how large they get
+
+pub shared_most : (s : ℕ) → s ≤ most_shared → s * s ≤ most_shared * most_shared
+shared_most s h = mul-le-mul {n₂ = most_shared} {m₂ = most_shared} h h
+
+pub divisor_most : (a b : ℕ) → a ≤ most_squares → b ≤ most_weight_squares → a * b ≤ most_squares * most_weight_squares
+divisor_most a b ha hb = mul-le-mul {n₂ = most_squares} {m₂ = most_weight_squares} ha hb
+
+-- ---- what they are
 
 -- weights by themselves
 sum_squares : (n : ℕ) (ws : List ℕ) → weighted_sum n ws ws ≡ squares_of n ws

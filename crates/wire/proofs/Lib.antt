@@ -3,4 +3,3 @@ pub mod FieldLaws
 pub mod LayoutLaws
 pub mod Gather
 pub mod Chunk
-pub mod Answer

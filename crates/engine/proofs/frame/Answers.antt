@@ -1,5 +1,4 @@
 -- `frame` meets its contract. Assumes nothing.
-use native.Mathlib.Omega.{arith}
 use borrow.Author.Rules.{rules}
 use Rattle.engine.proofs.ReadLaws.{read_message, read_register, read_eight, read_unregister, read_as}
 use Rattle.engine.proofs.PostLaws.{not_lent, misshapen, done}

@@ -1,5 +1,4 @@
 -- `first_terms` meets its contract. Assumes nothing.
-use Prim.Native.Nat.{◌-◌}
 use native.Mathlib.Omega.{arith}
 use borrow.Author.Rules.{rules}
 use Rattle.fennelrake.proofs.TermLaws.{decoding_none, decoding_more, decoding_all}

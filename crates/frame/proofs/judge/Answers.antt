@@ -1,6 +1,6 @@
 -- `judge` meets its contract. Assumes nothing.
 use native.Mathlib.Omega.{arith}
-use borrow.Author.Tests.{not-true, not-false, eq-eqb, ne_eqb, le-leb, lt-leb}
+use borrow.Author.Tests.{eq-eqb, ne_eqb, le-leb, lt-leb}
 use Rattle.frame.specs.Read.{judge_next}
 use Rattle.frame.proofs.judge.Goals as goal
 

@@ -1,6 +1,4 @@
 -- `read_asked` meets its contract. Assumes nothing.
-use mathlib.Core.List.{[], ◌∷◌}
-use types.Run.{miss}
 use Rattle.frame.proofs.AskLaws.{asked_refused, asked_other, asked_register}
 use Rattle.frame.proofs.read_asked.Goals as goal
 

@@ -5,7 +5,6 @@ use mathlib.Core.Path.{◌≡◌, refl, sym, ◌∙◌}
 use mathlib.Core.Bool.{true}
 use mathlib.Core.List.{map}
 use lib.ListN.{length}
-use borrow.Author.Tests.{not-true, not-false}
 use Rattle.paper.specs.Frame.{most_pairs, Fields, row_of, grades_known, encode, bytes_for}
 use Rattle.paper.specs.Frame.Shape.{accepted}
 use Rattle.paper.specs.Write.{head_within, value_of, pairs_taken, from_fields}

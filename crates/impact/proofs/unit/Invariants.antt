@@ -1,5 +1,4 @@
 -- `unit`'s loops. Assumes nothing.
-use Prim.Native.Nat.{◌-◌}
 use Rattle.impact.specs.Table.{reach}
 use Rattle.impact.proofs.Newton.{Guess, Above}
 use Rattle.impact.proofs.unit.Given as goal

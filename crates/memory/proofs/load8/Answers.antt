@@ -1,5 +1,4 @@
 -- `memory::load8` meets its contract. Assumes nothing.
-use Prim.Native.Nat.{◌-◌}
 use native.Mathlib.Omega.{arith}
 use borrow.Author.Rules.{rules}
 use Rattle.memory.proofs.ArrayLaws.{loading_none, loading_more, loading_all}

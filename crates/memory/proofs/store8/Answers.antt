@@ -1,5 +1,4 @@
 -- `memory::store8` meets its contract. Assumes nothing.
-use Prim.Native.Nat.{◌-◌}
 use native.Mathlib.Omega.{arith}
 use borrow.Author.Rules.{rules}
 use Rattle.memory.proofs.ArrayLaws.{storing_none, storing_word, storing_all}

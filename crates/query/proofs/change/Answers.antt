@@ -23,8 +23,8 @@ returns-then-both c = changed_settled c.load_query-query.ensures c.load_threshol
 pub returns-else-both : goal.returns-else-both
 returns-else-both c =
     let sixteen : Sixteen c.load_list-list.result =
-        record { most = c.load_list-list.ensures.count_most; serials = search (rules, length_unmapped); keys = search (rules, length_unmapped) } in
+    record { most = c.load_list-list.ensures.count_most; serials = search (rules, length_unmapped); keys = search (rules, length_unmapped) } in
     let sixteen_next : Sixteen c.with_newest-next.result =
-        record { most = c.with_newest-next.ensures.within; serials = search (rules, length_unmapped); keys = search (rules, length_unmapped) } in
+    record { most = c.with_newest-next.ensures.within; serials = search (rules, length_unmapped); keys = search (rules, length_unmapped) } in
     changed_in_place c.load_query-query.ensures c.load_thresholds-thresholds.ensures c.load_list-list.ensures sixteen sixteen_next
     c.without_gone-rest.ensures c.with_newest-next.ensures (kept_full c.both.ensures c.if-both.false) c.retune.ensures

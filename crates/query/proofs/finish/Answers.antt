@@ -9,7 +9,7 @@ use Rattle.query.proofs.finish.Goals as goal
 pub returns : goal.returns
 returns c =
     let sixteen : Sixteen c.args.list =
-        record { most = omega arith; serials = search (rules, length_unmapped); keys = search (rules, length_unmapped) } in
+    record { most = omega arith; serials = search (rules, length_unmapped); keys = search (rules, length_unmapped) } in
     let eight : length c.args.raised ≡ 8 = search (rules, length_unmapped) in
     let range = c.requires.in_range in
     record {

@@ -10,7 +10,7 @@ use Rattle.query.proofs.retune.Goals as goal
 pub returns-then-same : goal.returns-then-same
 returns-then-same c =
     let sixteen : Sixteen c.args.list =
-        record { most = omega arith; serials = search (rules, length_unmapped); keys = search (rules, length_unmapped) } in
+    record { most = omega arith; serials = search (rules, length_unmapped); keys = search (rules, length_unmapped) } in
     let eight : length c.args.thresholds ≡ 8 = search (rules, length_unmapped) in
     let eight_next : length c.raised-next.result ≡ 8 = search (rules, length_unmapped) in
     let a = c.args in

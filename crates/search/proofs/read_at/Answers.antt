@@ -17,5 +17,5 @@ loop-p-preserved c =
     let r = c.loop-p in
     let cols = a.columns.now in
     let e : c.count_over-count.result ≡ over (cap a.at r.p (get_or a.query.weights r.p 0)) (column cols a.m r.p) =
-        c.count_over-count.ensures.0 ∙ ap₂ over c.cap.ensures (part_is cols a.m r.p) in
+    c.count_over-count.ensures.0 ∙ ap₂ over c.cap.ensures (part_is cols a.m r.p) in
     (omega arith, omega (arith, c.count_over-count.ensures.1), read_turn a.query.weights (column cols a.m) a.at r.p r.invariant.2 e)

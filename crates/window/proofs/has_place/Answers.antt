@@ -1,5 +1,4 @@
 -- `has_place` meets its contract: the answer is that of the sum so far and of the cells from the i-th on. Assumes nothing.
-use Prim.Native.Nat.{◌-◌}
 use native.Mathlib.Omega.{arith}
 use mathlib.Core.Path.{sym, ◌∙◌}
 use Rattle.memory.specs.Words.{words}

@@ -1,5 +1,4 @@
 -- `has_serial` meets its contract. Assumes nothing.
-use Prim.Native.Nat.{◌-◌}
 use native.Mathlib.Omega.{arith}
 use Rattle.window.proofs.WalkLaws.{serial_parts}
 use Rattle.window.proofs.has_serial.Goals as goal

@@ -1,5 +1,5 @@
 -- `look_at`'s loops. Assumes nothing.
-use Prim.Native.Nat.{◌≤◌, ◌-◌}
+use Prim.Native.Nat.{◌≤◌}
 use lib.ListN.{drop}
 use Rattle.memory.specs.Words.{words}
 use Rattle.window.specs.Slot.{slot, size_at}

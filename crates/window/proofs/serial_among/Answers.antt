@@ -1,5 +1,4 @@
 -- `serial_among` meets its contract. Assumes nothing.
-use Prim.Native.Nat.{◌-◌}
 use native.Mathlib.Omega.{arith}
 use Rattle.window.proofs.WalkLaws.{serial_none, serial_more}
 use Rattle.window.proofs.serial_among.Goals as goal

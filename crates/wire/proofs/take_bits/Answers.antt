@@ -1,5 +1,5 @@
 -- `take_bits` meets its contract. Assumes nothing.
-use Prim.Native.Nat.{◌-◌, ◌^◌, ◌<◌}
+use Prim.Native.Nat.{◌^◌, ◌<◌}
 use native.Mathlib.Omega.{arith}
 use native.Mathlib.Nat.{mod-lt, lt_of_lt_of_le, sub_self}
 use lib.Pow.{pow_pos, pow_mono}

@@ -13,7 +13,7 @@ use Rattle.closeness.proofs.Closeness.of.Goals as goal
 pub divided-requires : goal.divided-requires
 divided-requires c =
     let counts_below : Below c.args.query.n (2 ^ count_width) c.counts_in-counts.result =
-        λ i h. omega (arith, c.counts_in-counts.ensures i h) in
+    λ i h. omega (arith, c.counts_in-counts.ensures i h) in
     let q = c.args.query in
     let below = c.requires.3 in
     let shared = sum_most 255 q.n q.weights c.counts_in-counts.result below counts_below in
