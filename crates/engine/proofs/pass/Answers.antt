@@ -13,15 +13,6 @@ use Rattle.engine.proofs.pass.Goals.{then-in_use+then-update, then-in_use+else-u
 pub loop-q-init : goal.loop-q-init
 loop-q-init c = (omega arith, refl, passed_none _)
 
-pub in_use-requires : goal.in_use-requires
-in_use-requires c = (omega arith, omega arith)
-
-pub overflow_add-marks : goal.overflow_add-marks
-overflow_add-marks c =
-    let l = c.loop-q in
-    let h = marks_fit l.q (omega arith) l.invariant.2.small in
-    record { fits = rw c.pow2-marks.ensures h }
-
 pub loop-q-preserved : goal.loop-q-preserved
 loop-q-preserved c =
     let l = c.loop-q in
@@ -44,9 +35,6 @@ loop-q-preserved c =
         turn_unused l.q _ _ (omega arith) (omega arith) l.invariant.2 used u.if-in_use.false (ap words u.state-is) u.marks-is,
       )
     ]
-
-pub shape_of-state : goal.shape_of-state
-shape_of-state c = c.loop-q.invariant.1
 
 pub returns : goal.returns
 returns c = let e : c.loop-q.q ≡ numbers = omega arith in rw e at c.loop-q.invariant.2
