@@ -1,7 +1,7 @@
 -- `cancel` meets its contract. Assumes nothing.
 use native.Mathlib.Omega.{arith}
 use mathlib.Core.Path.{refl}
-use Rattle.engine.proofs.KindLaws.{late, unknown, cancel_done}
+use Rattle.engine.proofs.KindLaws.{unknown, cancel_done}
 use Rattle.engine.proofs.cancel.Goals as goal
 
 pub returns-then-cancelled-ge-SLOTS : goal.returns-then-cancelled-ge-SLOTS

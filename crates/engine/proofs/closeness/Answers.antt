@@ -1,11 +1,7 @@
 -- `closeness` meets its contract. Assumes nothing.
-use Prim.Native.Nat.{◌<◌}
 use native.Mathlib.Omega.{arith}
-use mathlib.Core.Path.{refl, sym, ◌∙◌}
-use Rattle.paper.specs.Frame.{numbers}
-use Rattle.memory.specs.Words.{words}
-use Rattle.engine.proofs.RepresentsLaws.{registered_below}
-use Rattle.engine.proofs.ClosenessLaws.{closeness_not_lent, closeness_above, closeness_unknown, closeness_unused, closeness_right}
+use mathlib.Core.Path.{refl}
+use Rattle.engine.proofs.ClosenessLaws.{closeness_above, closeness_unknown, closeness_unused, closeness_right}
 use Rattle.engine.proofs.closeness.Goals as goal
 
 pub returns-then-serial-ge-SERIALS : goal.returns-then-serial-ge-SERIALS

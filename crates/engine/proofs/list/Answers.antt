@@ -1,10 +1,7 @@
 -- `list` meets its contract. Assumes nothing.
 use native.Mathlib.Omega.{arith}
-use mathlib.Core.Path.{sym, ◌∙◌}
 use borrow.Author.Rules.{rules}
-use Rattle.memory.specs.Words.{words}
-use Rattle.engine.proofs.RepresentsLaws.{registered_below}
-use Rattle.engine.proofs.ListLaws.{list_not_lent, list_unused, list_right}
+use Rattle.engine.proofs.ListLaws.{list_unused, list_right}
 use Rattle.engine.proofs.list.Goals as goal
 
 pub returns-then-not-registered : goal.returns-then-not-registered

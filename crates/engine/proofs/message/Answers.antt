@@ -1,8 +1,6 @@
 -- `message` meets its contract. Assumes nothing.
 use native.Mathlib.Omega.{arith}
-use Rattle.window.proofs.RingLaws.{moved_trans}
-use Rattle.engine.proofs.KindLaws.{late, known, room_left, message_done}
-use borrow.Author.Rules.{rules}
+use Rattle.engine.proofs.KindLaws.{known, room_left, message_done}
 use Rattle.engine.proofs.message.Goals as goal
 
 pub returns-then-has_serial : goal.returns-then-has_serial

@@ -5,7 +5,6 @@ use mathlib.Core.Path.{◌≡◌, refl, ap, ◌∙◌}
 use lib.ListN.{length}
 use Rattle.paper.specs.Frame.{numbers}
 use Rattle.memory.specs.Words.{words}
-use Rattle.engine.proofs.MarkLaws.{marks_fit}
 use Rattle.engine.proofs.PassedLaws.{passed_none, turn_unused, turn_unreached, turn_reached}
 use Rattle.engine.proofs.pass.Goals as goal
 use Rattle.engine.proofs.pass.Goals.{then-in_use+then-update, then-in_use+else-update, else-in_use}

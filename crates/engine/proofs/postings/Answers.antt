@@ -1,6 +1,6 @@
 -- `postings` meets its contract. Assumes nothing.
 use native.Mathlib.Omega.{arith}
-use Rattle.engine.proofs.PostingLaws.{postings_not_lent, postings_no_term, postings_no_room, postings_right}
+use Rattle.engine.proofs.PostingLaws.{postings_no_term, postings_no_room, postings_right}
 use Rattle.engine.proofs.postings.Goals as goal
 
 pub returns-then-term-ge-TERMS : goal.returns-then-term-ge-TERMS

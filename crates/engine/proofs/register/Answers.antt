@@ -1,6 +1,5 @@
 -- `register` meets its contract. Assumes nothing.
-use Rattle.engine.proofs.KindLaws.{late}
-use Rattle.engine.proofs.NumberLaws.{number_taken, register_done}
+use Rattle.engine.proofs.NumberLaws.{register_done}
 use borrow.Author.Rules.{rules}
 use Rattle.engine.proofs.register.Goals as goal
 

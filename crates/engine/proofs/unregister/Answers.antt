@@ -1,5 +1,4 @@
 -- `unregister` meets its contract. Assumes nothing.
-use Rattle.engine.proofs.KindLaws.{late}
 use Rattle.engine.proofs.NumberLaws.{number_free, unregister_done}
 use borrow.Author.Rules.{rules}
 use Rattle.engine.proofs.unregister.Goals as goal
