@@ -92,16 +92,6 @@ abbrev Uncompared : ℕ → Compared → Type 0
 Uncompared k x = (x.number ≡ k) × (x.quotient ≡ 0) × (x.remainder ≡ 0)
 
 module _ (s : List ℕ) (serial n : ℕ) where
-  pub closeness_not_lent : (x : Compared) → (length s ≡ state_length → ⊥) → Uncompared 12 x → ClosenessPost s serial n x
-  closeness_not_lent x h z = record {
-    not_lent = λ _. z.0;
-    no_serial = λ long. absurd (h long);
-    no_number = λ long. absurd (h long);
-    most = rw z.1 (omega arith);
-    refused = λ _. (z.1, z.2);
-    right = λ log r long. absurd (h long);
-  }
-
   module _ (long : length s ≡ state_length) where
     -- by whether the serial is in force and the number in use
     judged : (log : Log) {b d : Bool} → has_serial serial (in_force_now log) ≡ b → is_in_use (query_at log n) ≡ d

@@ -8,11 +8,11 @@ use mathlib.Core.Logic.{⊎_elim}
 use mathlib.Core.List.{List, map}
 use lib.ListN.{get_or}
 use lib.Dec.{ltb}
-use borrow.Author.Tests.{lt-ltb, le-ltb, ltb-true, ltb-false}
+use borrow.Author.Tests.{le-ltb, ltb-true, ltb-false}
 use Rattle.paper.specs.Frame.{Urgency, Form, Frame, Pair, Valid, grade_of, serial_width}
 use Rattle.paper.specs.Frame.Frame.{message, tick, cancel}
 use Rattle.paper.specs.Window.{arrival, most_messages}
-use Rattle.paper.specs.Layout.{slots, life_at, clock_at, capacity_at}
+use Rattle.paper.specs.Layout.{slots, life_at, capacity_at}
 use Rattle.paper.specs.Log.{Log, in_force_at, filled_at, has_serial, time_of, judge_kind, judge_frame, accept}
 use Rattle.paper.specs.Sound.{Sound}
 use Rattle.paper.proofs.LogLaws.{places_at, filled_valid}
@@ -31,10 +31,7 @@ use Rattle.engine.proofs.StepLaws.{taken_in, plain_taken}
 use Rattle.engine.proofs.CancelLaws.{cancel_change, cancel_places, cancel_count}
 use Rattle.engine.proofs.PrepareLaws.{ticked, joined}
 
--- a time below the clock
-judged_late : (log : Log) (f : Frame) → time_of f < log.clock → judge_frame log f ≡ 7
-judged_late log f h = ap (λ (b : Bool). cond b 7 (judge_kind log f)) (lt-ltb (time_of f) log.clock h)
-
+-- a time not below the clock
 pub judged_kind : (log : Log) (f : Frame) → log.clock ≤ time_of f → judge_frame log f ≡ judge_kind log f
 judged_kind log f h = ap (λ (b : Bool). cond b 7 (judge_kind log f)) (le-ltb (time_of f) log.clock h)
 
@@ -98,20 +95,6 @@ pub refused_by : {s : List ℕ} {r : Reply} {n : ℕ} (f : Frame) → Refusal (s
 refused_by f e h = record {
   unchanged = λ z. (refl, e.1, e.2);
   right = λ log r v. (e.0 ∙ sym (h log r v), λ z. absurd (omega (arith, e.0)));
-}
-
--- 7: "time below the clock"
-pub late : {s : List ℕ} {r : Reply} {clock : ℕ} (f : Frame) → clock ≡ get_or (words s) clock_at 0 → time_of f < clock → Refusal 7 r → Did f s r s
-late f e h z = refused_by f z (λ log r v. judged_late log f (let k = r.clock in omega arith))
-
--- ---- a tick
-
-pub tick_done : {s s' : List ℕ} {r : Reply} {t clock : ℕ} → clock ≡ get_or (words s) clock_at 0 → clock ≤ t → t < 2 ^ 32 → Ticked t (words s) r (words s') → Did (tick t) s r s'
-tick_done {t = t} e h small k = record {
-  unchanged = λ z. absurd (z k.number);
-  right = λ log r v.
-      let l : log.clock ≤ t = let x = r.clock in omega arith in
-      (k.number ∙ sym (judged_kind log (tick t) l), λ z. k.right log r small l);
 }
 
 -- ---- a message

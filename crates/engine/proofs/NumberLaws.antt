@@ -31,12 +31,6 @@ not_late s e h log r = let k = r.clock in omega arith
 
 module _ {s : List ℕ} {clock t p : ℕ} {b : Bool} (e : clock ≡ get_or (words s) clock_at 0) (h : clock ≤ t) (below : p < numbers)
     (u : b ≡ not (eqb (get_or (words s) (record_at p) 0) 0)) where
-  -- 9: "registering a number in use"
-  pub number_taken : {r : Reply} (k : ℕ) (ps : List Pair) → b ≡ true → Refusal 9 r → Did (register t p k ps) s r s
-  number_taken k ps y z =
-      refused_by (register t p k ps) z
-      (λ log r v. judged_kind log (register t p k ps) (not_late s e h log r) ∙ ap (λ (x : Bool). cond {A = ℕ} x 9 0) (used log (words s) p r below u ∙ y))
-
   -- 10: "dropping .. a number not in use"
   pub number_free : {r : Reply} → b ≡ false → Refusal 10 r → Did (unregister t p) s r s
   number_free y z =
