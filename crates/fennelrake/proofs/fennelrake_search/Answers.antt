@@ -7,12 +7,8 @@ use borrow.Author.Rules.{rules}
 use Rattle.paper.specs.Frame.{most_listed}
 use Rattle.memory.proofs.WordLaws.{put_big_length}
 use Rattle.fennelrake.specs.Entry.{list_answer}
-use Rattle.fennelrake.proofs.AnswerLaws.{search_short, search_refused, search_accepted}
+use Rattle.fennelrake.proofs.AnswerLaws.{search_refused, search_accepted}
 use Rattle.fennelrake.proofs.fennelrake_search.Goals as goal
-
--- too few bytes are lent
-pub returns-then-answer-lt-SEARCH_ANSWER : goal.returns-then-answer-lt-SEARCH_ANSWER
-returns-then-answer-lt-SEARCH_ANSWER c = (search_short (omega arith), refl)
 
 -- the engine refuses
 pub returns-then-searched-ne0 : goal.returns-then-searched-ne0
