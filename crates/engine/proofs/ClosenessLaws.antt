@@ -79,7 +79,8 @@ module _ (w : List ℕ) (s : ℕ) (small : s < 2 ^ serial_width) where
             pairs = rw (k.0, t) refl;
           }
 
-      later : eqb (slot w j).serial s ≡ false → Sought (slot w (seek w s js)) s (select active ms) → Sought (slot w (seek w s (j ∷ js))) s (select active (m ∷ ms))
+      later : eqb (slot w j).serial s ≡ false → Sought (slot w (seek w s js)) s (select active ms)
+          → Sought (slot w (seek w s (j ∷ js))) s (select active (m ∷ ms))
       later q ih =
           by_bool m.cancelled (λ c. rw (q, c) ih)
           (λ c.
@@ -116,7 +117,8 @@ module _ (s : List ℕ) (serial n : ℕ) where
     }
 
     -- no message in force has the serial
-    unknown : (x : Compared) → ((log : Log) → Represents log (words s) → has_serial serial (in_force_now log) ≡ false) → Uncompared 13 x → ClosenessPost s serial n x
+    unknown : (x : Compared) → ((log : Log) → Represents log (words s) → has_serial serial (in_force_now log) ≡ false) → Uncompared 13 x
+        → ClosenessPost s serial n x
     unknown x absent z = refused x (inl refl) (λ _. refl) (λ log r. judged log (absent log r) refl) z
 
     -- it is none that a frame could say

@@ -56,7 +56,9 @@ module _ (s : List ℕ) (n : ℕ) where
         no_number = λ _ _. refl;
         most = let z = e.count in omega arith;
         refused = λ _. (e.list, e.tidy);
-        right = λ log r _. let absent = used_by f log r in (sym (judged log absent), e.list ∙ sym (listed_is log ∙ unlisted (seen log) (query_at log n) absent), e.tidy);
+        right = λ log r _.
+            let absent = used_by f log r in
+            (sym (judged log absent), e.list ∙ sym (listed_is log ∙ unlisted (seen log) (query_at log n) absent), e.tidy);
       }
 
       -- the list of the record is that of the log

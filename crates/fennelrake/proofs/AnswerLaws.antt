@@ -21,7 +21,8 @@ use Rattle.engine.specs.declared.Listing.{Listing}
 use Rattle.engine.specs.declared.Searched.{Searched}
 use Rattle.engine.specs.declared.Compared.{Compared}
 use Rattle.engine.specs.Post.{FramePost, ListPost, SearchPost, ClosenessPost}
-use Rattle.fennelrake.specs.Entry.{frame_answer, list_answer, search_answer, closeness_answer, Output, heard_reply, heard_list, no_entry, heard_listing, heard_search, heard_closeness, FrameEntry, ListEntry, SearchEntry, ClosenessEntry}
+use Rattle.fennelrake.specs.Entry.{frame_answer, list_answer, search_answer, closeness_answer, FrameEntry, ListEntry, SearchEntry, ClosenessEntry}
+use Rattle.fennelrake.specs.Entry.{Output, heard_reply, heard_list, no_entry, heard_listing, heard_search, heard_closeness}
 
 output_same : (written number : ℕ) (a : List ℕ) → Output written number a a
 output_same written number a = record { long = refl; past = refl; refused = λ _. refl }
@@ -148,7 +149,8 @@ module _ (part a : List ℕ) (r : Listing) (h : list_answer ≤ length a) (lp : 
 
 -- ---- search
 
-pub search_refused : {s bytes a : List ℕ} {r : Searched} → search_answer ≤ length a → (r.number ≡ 0 → ⊥) → SearchPost s bytes r → SearchEntry s bytes a r.number a
+pub search_refused : {s bytes a : List ℕ} {r : Searched} → search_answer ≤ length a → (r.number ≡ 0 → ⊥) → SearchPost s bytes r
+    → SearchEntry s bytes a r.number a
 search_refused {s} {bytes} {a} {r} h nz p = record {
   short = λ k. absurd (omega arith);
   enough = λ _. rw (ne_eqb r.number 0 nz) nothing;

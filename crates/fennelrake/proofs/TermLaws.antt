@@ -139,7 +139,8 @@ written_most x {w = w} p = go (from_fields x) refl (eqb w.number 0) p.size
     go (refused n) e true l = omega arith
     go (accepted f) e true l = let m = encode_most f (fields_valid x f e) in omega arith
 
-pub write_heard : (x : Fields) (count : ℕ) {first s t : List ℕ} {w : Written} → first ≡ take count x.terms → count ≤ most_pairs → (count < most_pairs → count ≡ length x.terms)
+pub write_heard : (x : Fields) (count : ℕ) {first s t : List ℕ} {w : Written} → first ≡ take count x.terms → count ≤ most_pairs
+    → (count < most_pairs → count ≡ length x.terms)
     → WritePost (from_fields (with_terms x first)) s t w → WritePost (from_fields x) s t (heard_writing (w.number * 4294967296 + w.length))
 write_heard x count {first} {s} {t} {w} e h all p =
     let m : w.length ≤ 80 = written_most (with_terms x first) p in

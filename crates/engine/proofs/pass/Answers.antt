@@ -26,7 +26,8 @@ loop-q-preserved c =
       | then-in_use+else-update u ↦ (
         omega arith,
         omega (arith, ap length u.state-is),
-        turn_unreached l.q _ _ (omega arith) (omega arith) l.invariant.2 used u.if-in_use.true u.update.ensures u.if-update.false (ap words u.state-is) u.marks-is,
+        turn_unreached l.q _ _ (omega arith) (omega arith) l.invariant.2 used u.if-in_use.true u.update.ensures u.if-update.false
+            (ap words u.state-is) u.marks-is,
       )
       | else-in_use u ↦ (
         omega arith,
