@@ -9,4 +9,4 @@ returns-then-not-registered c =
     list_unused _ _ (omega arith) c.registered.ensures c.if-not-registered.true c.none-then-not-registered.ensures
 
 pub returns : goal.returns
-returns c = list_right _ _ (omega arith) c.registered.ensures c.if-not-registered.false (search rules) c.of.ensures
+returns c = list_right _ _ (omega arith) c.registered.ensures (search rules) (search rules) c.of.ensures
