@@ -78,7 +78,8 @@ cut w (i ∷ a) j b (m ∷ ms) e =
       rest = r.rest;
     }
 
-pair_valid : (fa : List Message) (c : Message) (fb : List Message) → Messages (fa ++ (c ∷ fb)) → Messages fa × (Pairs count_width most_pairs c.pairs) × Messages fb
+pair_valid : (fa : List Message) (c : Message) (fb : List Message) → Messages (fa ++ (c ∷ fb))
+    → Messages fa × (Pairs count_width most_pairs c.pairs) × Messages fb
 pair_valid [] c fb v = (tt, v.1, v.2)
 pair_valid (m ∷ fa) c fb v = let r = pair_valid fa c fb v.2 in ((v.0, v.1, r.0), r.1, r.2)
 
@@ -173,7 +174,9 @@ module _ (log : Log) (w : List ℕ) (r : Represents log w) (t s : ℕ) (v : Vali
   gone_apart = parts_apart r.oldest_below r.count_below moved
 
   gone_same : (i : ℕ) → In i gone → slot silent i ≡ slot w₂ i
-  gone_same i m = other i (in_ring_lem (oldest_of w) (count_of w - n') i r.oldest_below m).0 (λ e. gone_apart i m (subst (In i) (sym found.parts) (in_right i a (j ∷ b) (inl e))))
+  gone_same i m =
+      other i (in_ring_lem (oldest_of w) (count_of w - n') i r.oldest_below m).0
+      (λ e. gone_apart i m (subst (In i) (sym found.parts) (in_right i a (j ∷ b) (inl e))))
 
   left_at : window w o' n' ≡ map held (keeps log t 0)
   left_at = left ∙ ap (map held) (sym (places_at log t))
@@ -235,7 +238,9 @@ module _ (log : Log) (w : List ℕ) (r : Represents log w) (t s : ℕ) (v : Vali
     first_below = r.oldest_below;
     then_below = low;
     stay_slots = stay_slots;
-    before = subst₂ (λ (all leave : List ℕ). Split all leave stay_slots) (sym live_before) (sym live_leaving) (split_more (live w₂ gone) (split_out (live w₂ a) j (live w₂ b)));
+    before =
+        subst₂ (λ (all leave : List ℕ). Split all leave stay_slots) (sym live_before) (sym live_leaving)
+        (split_more (live w₂ gone) (split_out (live w₂ a) j (live w₂ b)));
     after =
         ap (λ (k : ℕ). live silent (ring o' k)) (add-zero n')
         ∙ ap (live silent) found.parts

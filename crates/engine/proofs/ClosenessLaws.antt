@@ -79,7 +79,8 @@ module _ (w : List ℕ) (s : ℕ) (small : s < 2 ^ serial_width) where
             pairs = rw (k.0, t) refl;
           }
 
-      later : eqb (slot w j).serial s ≡ false → Sought (slot w (seek w s js)) s (select active ms) → Sought (slot w (seek w s (j ∷ js))) s (select active (m ∷ ms))
+      later : eqb (slot w j).serial s ≡ false → Sought (slot w (seek w s js)) s (select active ms)
+          → Sought (slot w (seek w s (j ∷ js))) s (select active (m ∷ ms))
       later q ih =
           by_bool m.cancelled (λ c. rw (q, c) ih)
           (λ c.
@@ -92,16 +93,6 @@ abbrev Uncompared : ℕ → Compared → Type 0
 Uncompared k x = (x.number ≡ k) × (x.quotient ≡ 0) × (x.remainder ≡ 0)
 
 module _ (s : List ℕ) (serial n : ℕ) where
-  pub closeness_not_lent : (x : Compared) → (length s ≡ state_length → ⊥) → Uncompared 12 x → ClosenessPost s serial n x
-  closeness_not_lent x h z = record {
-    not_lent = λ _. z.0;
-    no_serial = λ long. absurd (h long);
-    no_number = λ long. absurd (h long);
-    most = rw z.1 (omega arith);
-    refused = λ _. (z.1, z.2);
-    right = λ log r long. absurd (h long);
-  }
-
   module _ (long : length s ≡ state_length) where
     -- by whether the serial is in force and the number in use
     judged : (log : Log) {b d : Bool} → has_serial serial (in_force_now log) ≡ b → is_in_use (query_at log n) ≡ d
@@ -126,7 +117,8 @@ module _ (s : List ℕ) (serial n : ℕ) where
     }
 
     -- no message in force has the serial
-    unknown : (x : Compared) → ((log : Log) → Represents log (words s) → has_serial serial (in_force_now log) ≡ false) → Uncompared 13 x → ClosenessPost s serial n x
+    unknown : (x : Compared) → ((log : Log) → Represents log (words s) → has_serial serial (in_force_now log) ≡ false) → Uncompared 13 x
+        → ClosenessPost s serial n x
     unknown x absent z = refused x (inl refl) (λ _. refl) (λ log r. judged log (absent log r) refl) z
 
     -- it is none that a frame could say

@@ -8,11 +8,11 @@ use mathlib.Core.Logic.{⊎_elim}
 use mathlib.Core.List.{List, map}
 use lib.ListN.{get_or}
 use lib.Dec.{ltb}
-use borrow.Author.Tests.{lt-ltb, le-ltb, ltb-true, ltb-false}
+use borrow.Author.Tests.{le-ltb, ltb-true, ltb-false}
 use Rattle.paper.specs.Frame.{Urgency, Form, Frame, Pair, Valid, grade_of, serial_width}
 use Rattle.paper.specs.Frame.Frame.{message, tick, cancel}
 use Rattle.paper.specs.Window.{arrival, most_messages}
-use Rattle.paper.specs.Layout.{slots, life_at, clock_at, capacity_at}
+use Rattle.paper.specs.Layout.{slots, life_at, capacity_at}
 use Rattle.paper.specs.Log.{Log, in_force_at, filled_at, has_serial, time_of, judge_kind, judge_frame, accept}
 use Rattle.paper.specs.Sound.{Sound}
 use Rattle.paper.proofs.LogLaws.{places_at, filled_valid}
@@ -31,15 +31,13 @@ use Rattle.engine.proofs.StepLaws.{taken_in, plain_taken}
 use Rattle.engine.proofs.CancelLaws.{cancel_change, cancel_places, cancel_count}
 use Rattle.engine.proofs.PrepareLaws.{ticked, joined}
 
--- a time below the clock
-judged_late : (log : Log) (f : Frame) → time_of f < log.clock → judge_frame log f ≡ 7
-judged_late log f h = ap (λ (b : Bool). cond b 7 (judge_kind log f)) (lt-ltb (time_of f) log.clock h)
-
+-- a time not below the clock
 pub judged_kind : (log : Log) (f : Frame) → log.clock ≤ time_of f → judge_frame log f ≡ judge_kind log f
 judged_kind log f h = ap (λ (b : Bool). cond b 7 (judge_kind log f)) (le-ltb (time_of f) log.clock h)
 
 -- a serial in the window is one in force
-pub serial_in_force : (log : Log) (t s : ℕ) → Sound log → s < 2 ^ serial_width → {xs : List Slot} → xs ≡ map held (filled_at log t) → holds_serial s xs ≡ has_serial s (in_force_at log t)
+pub serial_in_force : (log : Log) (t s : ℕ) → Sound log → s < 2 ^ serial_width → {xs : List Slot} → xs ≡ map held (filled_at log t)
+    → holds_serial s xs ≡ has_serial s (in_force_at log t)
 serial_in_force log t s sound h e =
     ap (holds_serial s) e
     ∙ holds_serial_lem s h (filled_at log t) (filled_valid log t sound)
@@ -48,8 +46,8 @@ serial_in_force log t s sound h e =
 -- ---- the clock moves on
 
 -- what is loaded, and a window that moved on, where memory holds a log
-module _ {t life clock o n clock' o' n' : ℕ} {w : List ℕ} (loaded : Loaded w clock o n) (life-is : life ≡ get_or w life_at 0) (adv : Advanced w life o n t clock' o' n')
-    (log : Log) (r : Represents log w) where
+module _ {t life clock o n clock' o' n' : ℕ} {w : List ℕ} (loaded : Loaded w clock o n) (life-is : life ≡ get_or w life_at 0)
+    (adv : Advanced w life o n t clock' o' n') (log : Log) (r : Represents log w) where
   oldest_loaded : o ≡ oldest_of w
   oldest_loaded = loaded.oldest_is r.oldest_below
 
@@ -94,24 +92,11 @@ abbrev pub Refusal : ℕ → Reply → Type 0
 Refusal n r = (r.number ≡ n) × (r.marks ≡ 0) × (r.departures ≡ 0)
 
 -- a frame refused by the history leaves the memory as it was
-pub refused_by : {s : List ℕ} {r : Reply} {n : ℕ} (f : Frame) → Refusal (suc n) r → ((log : Log) → Represents log (words s) → Valid f → judge_frame log f ≡ suc n) → Did f s r s
+pub refused_by : {s : List ℕ} {r : Reply} {n : ℕ} (f : Frame) → Refusal (suc n) r
+    → ((log : Log) → Represents log (words s) → Valid f → judge_frame log f ≡ suc n) → Did f s r s
 refused_by f e h = record {
   unchanged = λ z. (refl, e.1, e.2);
   right = λ log r v. (e.0 ∙ sym (h log r v), λ z. absurd (omega (arith, e.0)));
-}
-
--- 7: "time below the clock"
-pub late : {s : List ℕ} {r : Reply} {clock : ℕ} (f : Frame) → clock ≡ get_or (words s) clock_at 0 → time_of f < clock → Refusal 7 r → Did f s r s
-late f e h z = refused_by f z (λ log r v. judged_late log f (let k = r.clock in omega arith))
-
--- ---- a tick
-
-pub tick_done : {s s' : List ℕ} {r : Reply} {t clock : ℕ} → clock ≡ get_or (words s) clock_at 0 → clock ≤ t → t < 2 ^ 32 → Ticked t (words s) r (words s') → Did (tick t) s r s'
-tick_done {t = t} e h small k = record {
-  unchanged = λ z. absurd (z k.number);
-  right = λ log r v.
-      let l : log.clock ≤ t = let x = r.clock in omega arith in
-      (k.number ∙ sym (judged_kind log (tick t) l), λ z. k.right log r small l);
 }
 
 -- ---- a message
@@ -125,13 +110,17 @@ module _ (t s life clock o n : ℕ) (g : Form) (ps : List Pair) (w : List ℕ) (
         ∙ ap (λ (c : Bool). cond {A = ℕ} c 8 0) (sym (e ∙ serial_in_force log t s r.sound v.serial (places_loaded loaded life-is adv log r late)))
 
     module _ (capacity clock₂ o' n' : ℕ) (capacity-is : capacity ≡ log.N) (roomy : Roomy capacity clock₁ o₁ n₁ clock₂ o' n')
-        (reply : Reply) (w₃ : List ℕ) (j : Joined (arrival t s (grade_of g) ps) o n o' n' w reply w₃) (ok : judge_frame log (message t s g ps) ≡ 0) (room : n' < most_messages) where
+        (reply : Reply) (w₃ : List ℕ) (j : Joined (arrival t s (grade_of g) ps) o n o' n' w reply w₃) (ok : judge_frame log (message t s g ps) ≡ 0)
+        (room : n' < most_messages) where
       moved_on : Moved (oldest_of w) (count_of w) o' n'
-      moved_on = subst₂ (λ (a b : ℕ). Moved a b o' n') (oldest_loaded loaded life-is adv log r) (count_loaded loaded life-is adv log r) (moved_trans adv.moved roomy.moved)
+      moved_on =
+          subst₂ (λ (a b : ℕ). Moved a b o' n') (oldest_loaded loaded life-is adv log r) (count_loaded loaded life-is adv log r)
+          (moved_trans adv.moved roomy.moved)
 
       joined_loaded : Joined (arrival t s (grade_of g) ps) (oldest_of w) (count_of w) o' n' w reply w₃
       joined_loaded =
-          subst₂ (λ (a b : ℕ). Joined (arrival t s (grade_of g) ps) a b o' n' w reply w₃) (oldest_loaded loaded life-is adv log r) (count_loaded loaded life-is adv log r) j
+          subst₂ (λ (a b : ℕ). Joined (arrival t s (grade_of g) ps) a b o' n' w reply w₃) (oldest_loaded loaded life-is adv log r)
+          (count_loaded loaded life-is adv log r) j
 
       pub message_accepted : Accepted log (message t s g ps) w reply w₃
       message_accepted =
@@ -154,8 +143,9 @@ room_left {capacity} {clock} {o} {n} {clock'} {o'} {n'} cap r h = go (ltb n capa
     go false e false y = let k = ltb-false 0 n y in let m = r.moved.count_most in omega arith
 
 -- 8: "serial in force at the frame's time"
-pub known : {s : List ℕ} {r : Reply} {t serial life clock o n clock₁ o₁ n₁ : ℕ} {b : Bool} (g : Form) (ps : List Pair) → Loaded (words s) clock o n → life ≡ get_or (words s) life_at 0
-    → Advanced (words s) life o n t clock₁ o₁ n₁ → clock ≤ t → b ≡ holds_serial serial (window (words s) o₁ n₁) → b ≡ true → Refusal 8 r
+pub known : {s : List ℕ} {r : Reply} {t serial life clock o n clock₁ o₁ n₁ : ℕ} {b : Bool} (g : Form) (ps : List Pair)
+    → Loaded (words s) clock o n → life ≡ get_or (words s) life_at 0 → Advanced (words s) life o n t clock₁ o₁ n₁ → clock ≤ t
+    → b ≡ holds_serial serial (window (words s) o₁ n₁) → b ≡ true → Refusal 8 r
     → Did (message t serial g ps) s r s
 known {s} {r} {t} {serial} {life} {clock} {o} {n} {clock₁} {o₁} {n₁} {b} g ps loaded life-is adv h e y z =
     refused_by (message t serial g ps) z
@@ -170,23 +160,24 @@ pub message_done : {s s' : List ℕ} {r : Reply} {t serial life clock o n clock�
     → (capacity ≤ most_messages) × (get_or (words s) capacity_at 0 ≤ most_messages → capacity ≡ get_or (words s) capacity_at 0)
     → Roomy capacity clock₁ o₁ n₁ clock₂ o' n'
     → Joined (arrival t serial u ps) o n o' n' (words s) r (words s') → n' < most_messages → Did (message t serial g ps) s r s'
-message_done {s} {s'} {r} {t} {serial} {life} {clock} {o} {n} {clock₁} {o₁} {n₁} {capacity} {clock₂} {o'} {n'} {b} {u} {ps} g grade loaded life-is adv h e y cap roomy j room = record {
-  unchanged = λ z. absurd (z j.number);
-  right = λ log rep v.
-      let l : log.clock ≤ t = let k = rep.clock in let m = loaded.clock_is in omega arith in
-      let c : capacity ≡ log.N = let k = rep.capacity in let m = rep.capacity_most in cap.1 (omega arith) ∙ k in
-      let ok : judge_frame log (message t serial g ps) ≡ 0 =
-      message_judged t serial life clock o n g ps (words s) loaded life-is clock₁ o₁ n₁ adv log rep l v b e ∙ ap (λ (x : Bool). cond {A = ℕ} x 8 0) y in (
-        j.number ∙ sym ok,
-        λ z. message_accepted t serial life clock o n g ps (words s) loaded life-is clock₁ o₁ n₁ adv log rep l v capacity clock₂ o' n' c roomy r (words s')
-            (subst (λ (x : Urgency). Joined (arrival t serial x ps) o n o' n' (words s) r (words s')) (sym grade) j) ok room,
-      );
-}
+message_done {s} {s'} {r} {t} {serial} {life} {clock} {o} {n} {clock₁} {o₁} {n₁} {capacity} {clock₂} {o'} {n'} {b} {u} {ps} g grade loaded life-is adv h e y
+    cap roomy j room = record {
+      unchanged = λ z. absurd (z j.number);
+      right = λ log rep v.
+          let l : log.clock ≤ t = let k = rep.clock in let m = loaded.clock_is in omega arith in
+          let c : capacity ≡ log.N = let k = rep.capacity in let m = rep.capacity_most in cap.1 (omega arith) ∙ k in
+          let ok : judge_frame log (message t serial g ps) ≡ 0 =
+          message_judged t serial life clock o n g ps (words s) loaded life-is clock₁ o₁ n₁ adv log rep l v b e ∙ ap (λ (x : Bool). cond {A = ℕ} x 8 0) y in (
+            j.number ∙ sym ok,
+            λ z. message_accepted t serial life clock o n g ps (words s) loaded life-is clock₁ o₁ n₁ adv log rep l v capacity clock₂ o' n' c roomy r (words s')
+                (subst (λ (x : Urgency). Joined (arrival t serial x ps) o n o' n' (words s) r (words s')) (sym grade) j) ok room,
+          );
+    }
 
 -- ---- a cancellation
 
-module _ {t life clock o n clock' o' n' j : ℕ} {w : List ℕ} (s : ℕ) (loaded : Loaded w clock o n) (life-is : life ≡ get_or w life_at 0) (adv : Advanced w life o n t clock' o' n')
-    (sought : j ≡ seek w s (ring o' n')) where
+module _ {t life clock o n clock' o' n' j : ℕ} {w : List ℕ} (s : ℕ) (loaded : Loaded w clock o n) (life-is : life ≡ get_or w life_at 0)
+    (adv : Advanced w life o n t clock' o' n') (sought : j ≡ seek w s (ring o' n')) where
   below : o' < slots
   below = moved_below loaded.oldest_below adv.moved
 
@@ -225,7 +216,8 @@ module _ {t life clock o n clock' o' n' j : ℕ} {w : List ℕ} (s : ℕ) (loade
 
 -- 13: "serial not in force at the frame's time"
 pub unknown : {state : List ℕ} {r : Reply} {t s life clock o n clock' o' n' j : ℕ} → Loaded (words state) clock o n → life ≡ get_or (words state) life_at 0
-    → Advanced (words state) life o n t clock' o' n' → clock ≤ t → j ≡ seek (words state) s (ring o' n') → slots ≤ j → Refusal 13 r → Did (cancel t s) state r state
+    → Advanced (words state) life o n t clock' o' n' → clock ≤ t → j ≡ seek (words state) s (ring o' n') → slots ≤ j → Refusal 13 r
+    → Did (cancel t s) state r state
 unknown {t = t} {s} loaded life-is adv h sought none z =
     refused_by (cancel t s) z
     (λ log r v.

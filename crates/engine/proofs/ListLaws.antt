@@ -30,15 +30,6 @@ unlisted ms none e = refl
 unlisted ms (some q) e = absurd (true≢false e)
 
 module _ (s : List ℕ) (n : ℕ) where
-  pub list_not_lent : {l : Lines} → (length s ≡ state_length → ⊥) → NoLine l → ListPost s n (record { number = 12; list = l })
-  list_not_lent h e = record {
-    not_lent = λ _. refl;
-    no_number = λ long. absurd (h long);
-    most = let z = e.count in omega arith;
-    refused = λ _. (e.list, e.tidy);
-    right = λ log r long. absurd (h long);
-  }
-
   module _ (long : length s ≡ state_length) where
     judged : (log : Log) {b : Bool} → is_in_use (query_at log n) ≡ b → judge_list 0 log (length s) 0 n ≡ cond b 0 10
     unfolding judge_list
@@ -65,7 +56,9 @@ module _ (s : List ℕ) (n : ℕ) where
         no_number = λ _ _. refl;
         most = let z = e.count in omega arith;
         refused = λ _. (e.list, e.tidy);
-        right = λ log r _. let absent = used_by f log r in (sym (judged log absent), e.list ∙ sym (listed_is log ∙ unlisted (seen log) (query_at log n) absent), e.tidy);
+        right = λ log r _.
+            let absent = used_by f log r in
+            (sym (judged log absent), e.list ∙ sym (listed_is log ∙ unlisted (seen log) (query_at log n) absent), e.tidy);
       }
 
       -- the list of the record is that of the log

@@ -1,12 +1,11 @@
 -- Laws of marks as bits of a number. Assumes nothing.
 use Prim.Native.Nat.{ℕ, zero, suc, ◌+◌, ◌<◌, ◌^◌}
-use native.Mathlib.Nat.{pow-succ', le_refl, lt_of_lt_of_le}
+use native.Mathlib.Nat.{pow-succ', le_refl}
 use native.Mathlib.Numerals.{add-one}
 use native.Mathlib.Omega.{arith}
 use mathlib.Core.Path.{◌≡◌, refl, sym, ap, ap₂, ◌∙◌}
 use mathlib.Core.Bool.{Bool, true, false, cond, ◌||◌}
 use lib.Dec.{eqb, ltb}
-use lib.Pow.{pow_mono}
 use borrow.Author.Tests.{eq-eqb, ne_eqb, ltb-true, ltb-false}
 use Rattle.paper.specs.Demand3.{bitmap}
 
@@ -44,7 +43,3 @@ bitmap_next f q e m = rw (add-one, e, m) (omega arith)
 pub marks_below : (q : ℕ) (r : Bool) {marks : ℕ} → marks < 2 ^ q → marks + cond r (2 ^ q) 0 < 2 ^ (q + 1)
 marks_below q true h = rw (add-one, pow-succ' 2 q) (omega arith)
 marks_below q false h = rw (add-one, pow-succ' 2 q) (omega arith)
-
--- they are 32 bits
-pub marks_fit : (q : ℕ) {marks : ℕ} → q < 32 → marks < 2 ^ q → marks + 2 ^ q < 2 ^ 32
-marks_fit q l h = lt_of_lt_of_le (marks_below q true h) (pow_mono {i = q + 1} {j = 32} (omega arith))

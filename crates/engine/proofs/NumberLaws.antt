@@ -31,12 +31,6 @@ not_late s e h log r = let k = r.clock in omega arith
 
 module _ {s : List ℕ} {clock t p : ℕ} {b : Bool} (e : clock ≡ get_or (words s) clock_at 0) (h : clock ≤ t) (below : p < numbers)
     (u : b ≡ not (eqb (get_or (words s) (record_at p) 0) 0)) where
-  -- 9: "registering a number in use"
-  pub number_taken : {r : Reply} (k : ℕ) (ps : List Pair) → b ≡ true → Refusal 9 r → Did (register t p k ps) s r s
-  number_taken k ps y z =
-      refused_by (register t p k ps) z
-      (λ log r v. judged_kind log (register t p k ps) (not_late s e h log r) ∙ ap (λ (x : Bool). cond {A = ℕ} x 9 0) (used log (words s) p r below u ∙ y))
-
   -- 10: "dropping .. a number not in use"
   pub number_free : {r : Reply} → b ≡ false → Refusal 10 r → Did (unregister t p) s r s
   number_free y z =
@@ -52,11 +46,14 @@ module _ {s : List ℕ} {clock t p : ℕ} {b : Bool} (e : clock ≡ get_or (word
         let ok : judge_frame log (register t p k ps) ≡ 0 =
         judged_kind log (register t p k ps) (not_late s e h log r) ∙ ap (λ (x : Bool). cond {A = ℕ} x 9 0) (used log (words s) p r below u ∙ y) in
         let a = tk.right log r small (not_late s e h log r) in
-        let g' = subst₂ (λ (x z : ℕ). Registered w₁ p x z (record { k = k; terms = ps }) (words s')) (loaded.oldest_is a.holds.oldest_below) (loaded.count_is a.holds.count_below) g in
-        (en ∙ sym ok, λ z. registered_accepted t p k ps log (words s) w₁ (words s') r v ok (unused (query_at log p) (used log (words s) p r below u ∙ y)) ticked reply a g' em ed);
+        let g' = subst₂ (λ (x z : ℕ). Registered w₁ p x z (record { k = k; terms = ps }) (words s'))
+        (loaded.oldest_is a.holds.oldest_below) (loaded.count_is a.holds.count_below) g in
+        let free = unused (query_at log p) (used log (words s) p r below u ∙ y) in
+        (en ∙ sym ok, λ z. registered_accepted t p k ps log (words s) w₁ (words s') r v ok free ticked reply a g' em ed);
   }
 
-  pub unregister_done : {s' w₁ : List ℕ} {ticked reply : Reply} → t < 2 ^ 32 → b ≡ true → Cleared (words s) p w₁ → Ticked t w₁ ticked (words s') → reply.number ≡ 0
+  pub unregister_done : {s' w₁ : List ℕ} {ticked reply : Reply} → t < 2 ^ 32 → b ≡ true → Cleared (words s) p w₁ → Ticked t w₁ ticked (words s')
+      → reply.number ≡ 0
       → reply.marks ≡ (ticked.marks + 2 ^ p) % 2 ^ 32 → reply.departures ≡ ticked.departures → Did (unregister t p) s reply s'
   unregister_done {s'} {w₁} {ticked} {reply} small y c tk en em ed = record {
     unchanged = λ z. absurd (z en);

@@ -83,7 +83,8 @@ Turned v q m coming going r v' =
     → Tables w₀ m coming going → Change w₀ v o c m aa ga sa ca → HeldAt w₀ v q o c (λ _. aa) x
     → (r ≡ reached_in v q x (λ _. ga ++ ca)) × HoldsAt v' q m.first m.count (λ _. sa ++ ca) x
 
-module _ (q : ℕ) (w v : List ℕ) {m : Move} {coming going : List ℕ} {marks : ℕ} (below : q < numbers) (low : m.gone < slots) (passed : Passed q w m coming going marks v) where
+module _ (q : ℕ) (w v : List ℕ) {m : Move} {coming going : List ℕ} {marks : ℕ} (below : q < numbers) (low : m.gone < slots)
+    (passed : Passed q w m coming going marks v) where
   record_stands : SameRecord w v q
   record_stands = record_same passed.keeps q (inr (omega arith))
 
@@ -94,8 +95,10 @@ module _ (q : ℕ) (w v : List ℕ) {m : Move} {coming going : List ℕ} {marks 
       (thresholds_same w v q passed.keeps.long record_stands (length y.terms) (t y refl).terms.at_most)
 
   -- one turn writes its own record only, and nothing where the record isn't reached
-  module _ (v' : List ℕ) (r : Bool) (here : Keeps (record_at q) (record_at (q + 1)) v v') (same : r ≡ false → v' ≡ v) (one : Turned v q m coming going r v') where
-    module _ (w₀ : List ℕ) (o c : ℕ) (aa ga sa ca : List Message) (qs : List (Option Query)) (tables : Tables w₀ m coming going) (change : Change w₀ w o c m aa ga sa ca)
+  module _ (v' : List ℕ) (r : Bool) (here : Keeps (record_at q) (record_at (q + 1)) v v') (same : r ≡ false → v' ≡ v)
+      (one : Turned v q m coming going r v') where
+    module _ (w₀ : List ℕ) (o c : ℕ) (aa ga sa ca : List Message) (qs : List (Option Query)) (tables : Tables w₀ m coming going)
+        (change : Change w₀ w o c m aa ga sa ca)
         (valid : Queries qs) (holds : (p : ℕ) → p < numbers → HeldAt w₀ w p o c (λ _. aa) (get_or qs p none)) where
       before : ((p : ℕ) → p < q → HoldsAt v p m.first m.count (λ _. sa ++ ca) (get_or qs p none))
           × (marks ≡ bitmap (λ p. reached_in w p (get_or qs p none) (λ _. ga ++ ca)) q)

@@ -42,7 +42,8 @@ module _ (s bytes : List ℕ) (log : Log) (n : ℕ) (e : judge 0 log (call_of s 
   unfolding after
   log_after = rw e
 
-  marked_by_lem : (q : ℕ) → marked_by 0 log (keeping (words s)) (call_of s bytes) q ≡ cond (eqb n 0) (marked_shape log (keeping (words s)) (shape bytes) q) false
+  marked_by_lem : (q : ℕ) → marked_by 0 log (keeping (words s)) (call_of s bytes) q
+      ≡ cond (eqb n 0) (marked_shape log (keeping (words s)) (shape bytes) q) false
   unfolding marked_by
   marked_by_lem q = rw e
 
@@ -118,10 +119,13 @@ module _ (s s' bytes : List ℕ) (r : Reply) (f : Frame) (l : length s ≡ state
         let none : judge 0 log (call_of s bytes) ≡ 0 = number ∙ z in
         let holds : Represents (accept log f) (words s') = a.holds in
         record {
-          reply = replied s bytes log 0 none r z (a.marks ∙ ap (marks_shape log (keeping (words s))) (sym e)) (a.departures ∙ ap (departures_shape log) (sym e));
+          reply =
+              replied s bytes log 0 none r z (a.marks ∙ ap (marks_shape log (keeping (words s))) (sym e))
+              (a.departures ∙ ap (departures_shape log) (sym e));
           holds = subst (λ (x : Log). Represents x (words s')) (ap (accept_shape log) (sym e) ∙ sym (log_after s bytes log 0 none)) holds;
           untouched = λ q h m.
-              let free : marked log (keeping (words s)) f q ≡ false = ap (λ (x : Shape). marked_shape log (keeping (words s)) x q) (sym e) ∙ sym (marked_by_lem s bytes log 0 none q) ∙ m in
+              let free : marked log (keeping (words s)) f q ≡ false =
+              ap (λ (x : Shape). marked_shape log (keeping (words s)) x q) (sym e) ∙ sym (marked_by_lem s bytes log 0 none q) ∙ m in
               let same = a.untouched q h free in
               (same_record q h same, unmarked_kept log f (words s) (words s') q rep holds ok h free same);
         }

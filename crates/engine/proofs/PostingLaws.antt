@@ -23,15 +23,6 @@ use Rattle.engine.specs.Represents.{Represents}
 use Rattle.engine.specs.Post.{posted_into, PostingsPost}
 
 module _ (s : List ℕ) (t : ℕ) (out : List ℕ) where
-  pub postings_not_lent : (length s ≡ state_length → ⊥) → PostingsPost s t out (record { number = 12; count = 0 }) out
-  postings_not_lent h = record {
-    long = refl;
-    not_lent = λ _. refl;
-    no_term = λ long. absurd (h long);
-    refused = λ _. (refl, refl);
-    right = λ log r long. absurd (h long);
-  }
-
   module _ (long : length s ≡ state_length) where
     judged : (log : Log) {b d : Bool} → ltb t (2 ^ 10) ≡ b → leb (posting_length * length (posted log t)) (length out) ≡ d
         → judge_postings log (length s) (length out) t ≡ cond b (cond d 0 12) 5

@@ -6,7 +6,8 @@ use mathlib.Core.Path.{◌≡◌, refl, sym, ap, ◌∙◌, subst}
 use mathlib.Core.List.{List, [], ◌∷◌}
 use lib.ListN.{length, get_or, take}
 use lib.Dec.{lit≤}
-use Rattle.paper.specs.Frame.{Pair, Frame, Shape, level, urgency_of, grade_of, most_in, AllFit, count_width, weight_width, term_width, shape, most_pairs, most_terms, most_listed, numbers, Pairs}
+use Rattle.paper.specs.Frame.{Pair, Frame, Shape, AllFit, Pairs, level, urgency_of, grade_of, most_in, shape}
+use Rattle.paper.specs.Frame.{count_width, weight_width, term_width, most_pairs, most_terms, most_listed, numbers}
 use lib.Seq.{get_or-take}
 use Rattle.paper.specs.Frame.Urgency.{vital}
 use Rattle.paper.specs.Frame.Form.{ungraded, graded, long}

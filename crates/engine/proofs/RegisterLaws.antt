@@ -84,7 +84,8 @@ module _ (p : ℕ) (w w' : List ℕ) (keeps : Keeps (record_at p) (record_at p +
 
 -- ---- a query registered
 
-module _ (t p k : ℕ) (ps : List Pair) (log : Log) (w w₁ w₂ : List ℕ) (r : Represents log w) (v : Valid (register t p k ps)) (ok : judge_frame log (register t p k ps) ≡ 0)
+module _ (t p k : ℕ) (ps : List Pair) (log : Log) (w w₁ w₂ : List ℕ) (r : Represents log w) (v : Valid (register t p k ps))
+    (ok : judge_frame log (register t p k ps) ≡ 0)
     (free : query_at log p ≡ none) (ticked reply : Reply) (a : Accepted log (tick t) w ticked w₁) where
   abbrev new : Query
   new = record { k = k; terms = ps }
@@ -95,7 +96,8 @@ module _ (t p k : ℕ) (ps : List Pair) (log : Log) (w w₁ w₂ : List ℕ) (r 
   below : p < numbers
   below = v.number
 
-  pub registered_accepted : Registered w₁ p (oldest_of w₁) (count_of w₁) new w₂ → reply.marks ≡ (ticked.marks + 2 ^ p) % 2 ^ 32 → reply.departures ≡ ticked.departures
+  pub registered_accepted : Registered w₁ p (oldest_of w₁) (count_of w₁) new w₂ → reply.marks ≡ (ticked.marks + 2 ^ p) % 2 ^ 32
+      → reply.departures ≡ ticked.departures
       → Accepted log (register t p k ps) w reply w₂
   unfolding accept marked departs moved_for seen
   registered_accepted g em ed =
@@ -108,7 +110,8 @@ module _ (t p k : ℕ) (ps : List Pair) (log : Log) (w w₁ w₂ : List ℕ) (r 
       let fits : ticked.marks + 2 ^ p < 2 ^ 32 = let s = bitmap_small (λ q. eqb p q || marked log (keeping w) (tick t) q) numbers in omega arith in
       record {
         holds =
-            one_record p w₁ w₂ g.keeps (accept log (tick t)) (accept log (register t p k ps)) h refl refl refl refl refl (accept_sound log (register t p k ps) r.sound v ok)
+            one_record p w₁ w₂ g.keeps (accept log (tick t)) (accept log (register t p k ps)) h refl refl refl refl refl
+            (accept_sound log (register t p k ps) r.sound v ok)
             (λ q ne. get_or-set_other log.queries p q (some new) none (λ e. ne (sym e)))
             (subst (HoldsAt w₂ p (oldest_of w₁) (count_of w₁) (seen (accept log (tick t))))
             (sym (get_or-set_same log.queries p (some new) none (let l = r.sound.numbered in let b = below in omega arith)))
@@ -186,7 +189,9 @@ module _ (t p : ℕ) (log : Log) (w w₁ w₂ : List ℕ) (r : Represents log w)
         let fits : ticked.marks + 2 ^ p < 2 ^ 32 = let s = bitmap_small (λ q. eqb p q || marked without (keeping w₁) (tick t) q) numbers in omega arith in
         record {
           holds = unfold accept in a.holds;
-          marks = em ∙ mod-eq_of_lt fits ∙ sym more ∙ sym (bitmap_same (marked log (keeping w) (unregister t p)) (λ q. eqb p q || marked without (keeping w₁) (tick t) q) numbers same_marks);
+          marks =
+              em ∙ mod-eq_of_lt fits ∙ sym more
+              ∙ sym (bitmap_same (marked log (keeping w) (unregister t p)) (λ q. eqb p q || marked without (keeping w₁) (tick t) q) numbers same_marks);
           departures = unfold departs in (ed ∙ a.departures);
           untouched = λ q l e i u.
               let parts = or_false (eqb p q) (marked without (keeping w₁) (tick t) q) (sym (same_marks q l) ∙ e) in

@@ -76,7 +76,8 @@ reached_by_lem log w q moved r h =
     reached_at w q (seen log) (query_at log q) moved (λ y e. query_terms log.queries q y r.sound.queries e) (r.records q h)
 
 -- a number is in use as its record says
-pub used : (log : Log) (w : List ℕ) (q : ℕ) {b : Bool} → Represents log w → q < numbers → b ≡ not (eqb (get_or w (record_at q) 0) 0) → is_in_use (query_at log q) ≡ b
+pub used : (log : Log) (w : List ℕ) (q : ℕ) {b : Bool} → Represents log w → q < numbers → b ≡ not (eqb (get_or w (record_at q) 0) 0)
+    → is_in_use (query_at log q) ≡ b
 used log w q r h test =
     sym (first_is w q (seen log) (query_at log q) (λ y e. query_terms log.queries q y r.sound.queries e) (r.records q h)) ∙ sym test
 

@@ -73,7 +73,8 @@ module _ (s : List ℕ) (B : ℕ) (out : List ℕ) where
   screen_not_lent h = refused (λ e. omega arith) (rw (ne_eqb (length s) state_length h))
 
   module _ (long : length s ≡ state_length) where
-    judged : {b d : Bool} → leb B most_screen_lines ≡ b → leb (screen_line_length * B) (length out) ≡ d → judge_screen B (length s) (length out) ≡ cond b (cond d 0 12) 5
+    judged : {b d : Bool} → leb B most_screen_lines ≡ b → leb (screen_line_length * B) (length out) ≡ d
+        → judge_screen B (length s) (length out) ≡ cond b (cond d 0 12) 5
     unfolding judge_screen
     judged e f = rw (eq-eqb (length s) state_length long, e, f) refl
 
@@ -86,7 +87,8 @@ module _ (s : List ℕ) (B : ℕ) (out : List ℕ) where
 
       -- ---- accepted
 
-      pub screen_right : {n : ℕ} {out' : List ℕ} → screen_line_length * B ≤ length out → Shared (words s) B out n out' → ScreenPost s B out (record { number = 0; count = n }) out'
+      pub screen_right : {n : ℕ} {out' : List ℕ} → screen_line_length * B ≤ length out → Shared (words s) B out n out'
+          → ScreenPost s B out (record { number = 0; count = n }) out'
       unfolding screen_in
       screen_right {n} {out'} room h =
           let ok = judged (le-leb B most_screen_lines few) (le-leb (screen_line_length * B) (length out) room) in
@@ -98,7 +100,8 @@ module _ (s : List ℕ) (B : ℕ) (out : List ℕ) where
             long = ap length h.lines ∙ lines_length ps out (omega (arith, h.count));
             past =
                 ap (drop (screen_line_length * n)) h.lines
-                ∙ drop_at (screen_bytes ps) (drop (screen_line_length * length ps) out) (screen_line_length * n) (bytes_length ps ∙ ap (λ (k : ℕ). screen_line_length * k) (sym h.count))
+                ∙ drop_at (screen_bytes ps) (drop (screen_line_length * length ps) out) (screen_line_length * n)
+                (bytes_length ps ∙ ap (λ (k : ℕ). screen_line_length * k) (sym h.count))
                 ∙ ap (λ (k : ℕ). drop (screen_line_length * k) out) (sym h.count);
             refused = λ k. absurd (k refl);
             right = λ log r.

@@ -3,10 +3,10 @@ use Prim.Native.Nat.{ℕ, zero, suc, ◌+◌, ◌*◌, ◌≤◌, ◌<◌}
 use native.Mathlib.Omega.{arith}
 use mathlib.Core.Path.{◌≡◌, refl, sym, ap, ◌∙◌, subst}
 use mathlib.Core.Bool.{Bool, true, false, cond, ◌&&◌}
-use mathlib.Core.List.{List, ◌∷◌, ◌++◌, map, append-nil}
+use mathlib.Core.List.{List, ◌∷◌, map}
 use mathlib.Core.Option.{Option, none}
-use lib.ListN.{length, get_or, set, drop, replicate, length-set, length-replicate}
-use lib.Seq.{get_or-set_same, get_or-set_other, drop-length}
+use lib.ListN.{length, get_or, set, replicate, length-set, length-replicate}
+use lib.Seq.{get_or-set_same, get_or-set_other}
 use lib.Dec.{eqb, leb, ltb}
 use borrow.Author.Tests.{ltb-true, leb-true, eq-eqb, ne_eqb}
 use Rattle.paper.specs.Frame.{numbers}
@@ -28,10 +28,6 @@ four n = omega arith
 
 abbrev pub zeros : ℕ → List ℕ
 zeros n = replicate n 0
-
--- nothing is left to become 0
-pub zeros_all : (i : ℕ) (s : List ℕ) → i ≡ length s → zeros i ++ drop i s ≡ zeros (length s)
-zeros_all i s e = rw (e, drop-length s, append-nil) refl
 
 words_zeros : (n : ℕ) → words (zeros (4 * n)) ≡ zeros n
 unfolding words fours

@@ -15,7 +15,8 @@ use Rattle.paper.specs.Frame.Frame.{message, tick, register, unregister, cancel}
 use Rattle.paper.specs.Rank.{Query}
 use Rattle.paper.specs.Window.{Message}
 use Rattle.paper.specs.Layout.{slots, time_at, clock_at, oldest_at, count_at, record_at}
-use Rattle.paper.specs.Log.{Log, query_at, in_force_now, filled_now, has_serial, time_of, judge_frame, arrivals, cancels, accept, departs, seen, stays, moved_for}
+use Rattle.paper.specs.Log.{Log, query_at, in_force_now, filled_now, has_serial, time_of, judge_frame}
+use Rattle.paper.specs.Log.{arrivals, cancels, accept, departs, seen, stays, moved_for}
 use Rattle.paper.specs.Order.{In, Ordered, Split}
 use Rattle.paper.specs.Sort.{select}
 use Rattle.paper.specs.Sound.{Messages, Terms}
@@ -205,7 +206,8 @@ arrivals_held (register t n k ps) = refl
 arrivals_held (unregister t n) = refl
 arrivals_held (cancel t s) = refl
 
-module _ (log : Log) (f : Frame) (w : List ℕ) (r : Represents log w) (v : Valid f) (ok : judge_frame log f ≡ 0) (off : (j : ℕ) (m : Message) → cancels log f j m ≡ false)
+module _ (log : Log) (f : Frame) (w : List ℕ) (r : Represents log w) (v : Valid f) (ok : judge_frame log f ≡ 0)
+    (off : (j : ℕ) (m : Message) → cancels log f j m ≡ false)
     {o' n' newest : ℕ} {w₂ : List ℕ} (moved : Moved (oldest_of w) (count_of w) o' n')
     (left : window w o' n' ≡ map held (keeps log (time_of f) (length (arrivals f)))) (p : Prepared f w (oldest_of w) (count_of w) o' n' newest w₂) where
   abbrev more : ℕ

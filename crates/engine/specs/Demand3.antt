@@ -39,7 +39,9 @@ pub record Demand3 (N T : ℕ) (s : List ℕ) (frames : List (List ℕ)) (s' : L
   pub settled : AllSettled (log_of N T s frames) (keeping (words s'))
   -- "as a reading returns it": serials, scores and number of entries, the unused ones 0, or 10 where the log has no such query
   pub readings : (n : ℕ) (r : Listing) → ListPost s' n r
-      → (r.number ≡ judge_list 0 (log_of N T s frames) state_length 0 n) × (lines_of r.list ≡ listed 0 (log_of N T s frames) state_length 0 n) × TidyLines r.list
+      → (r.number ≡ judge_list 0 (log_of N T s frames) state_length 0 n)
+      × (lines_of r.list ≡ listed 0 (log_of N T s frames) state_length 0 n)
+      × TidyLines r.list
   -- "A posting reading .. returns how many there are and writes each one's serial and impact"; refused, it writes nothing
   pub postings : (t : ℕ) (out : List ℕ) (r : Found) (out' : List ℕ) → PostingsPost s' t out r out'
       → (r.number ≡ judge_postings (log_of N T s frames) state_length (length out) t)

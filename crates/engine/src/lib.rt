@@ -2,7 +2,8 @@
 #![tactic(auto)]
 
 ghost use Rattle.std.specs.Prelude.{◌≡◌, ℕ, ◌+◌, ◌%◌, ◌<◌, ◌≤◌, ◌^◌, map, length, get_or, replicate, take};
-ghost use Rattle.paper.specs.Frame.{Form, Frame, level, urgency_of, grade_of, numbers, term_width, count_width, weight_width, most_pairs, most_terms, most_listed};
+ghost use Rattle.paper.specs.Frame.{Form, Frame, level, urgency_of, grade_of, numbers};
+ghost use Rattle.paper.specs.Frame.{term_width, count_width, weight_width, most_pairs, most_terms, most_listed};
 ghost use Rattle.paper.specs.Frame.Urgency.{vital};
 ghost use Rattle.paper.specs.Write.{side_by_side};
 ghost use Rattle.paper.specs.Window.{most_messages, arrival};
@@ -207,7 +208,8 @@ fn join(
 ) -> Reply
     requires state_len { (length state.old ≡ state_length) × (urgency ≤ level vital) × (m ≤ most_pairs) }
     requires by_index { (i : ℕ) → i < m → (get_or terms i 0 < 2 ^ term_width) × (get_or counts i 0 < 2 ^ count_width) }
-    requires oldest_lt_slots { (before.oldest < slots) × (before.count < slots) × (after.count < most_messages) × Moved before.oldest before.count after.oldest after.count }
+    requires oldest_lt_slots { (before.oldest < slots) × (before.count < slots) × (after.count < most_messages)
+        × Moved before.oldest before.count after.oldest after.count }
     ensures { Joined (arrival time serial (urgency_of urgency) (side_by_side m terms counts))
         before.oldest before.count after.oldest after.count (words state.old) result (words state.new) }
 {

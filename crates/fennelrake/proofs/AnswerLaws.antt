@@ -1,5 +1,5 @@
 -- Laws of the answers to a frame, to a list reading, to a search and to a closeness: what a host hears of the words that were written. Assumes nothing.
-use Prim.Native.Nat.{ℕ, zero, suc, ◌+◌, ◌≤◌, ◌<◌, ◌*◌}
+use Prim.Native.Nat.{ℕ, zero, suc, ◌+◌, ◌≤◌, ◌*◌}
 use native.Mathlib.Omega.{arith}
 use mathlib.Core.Path.{◌≡◌, refl, sym, ap, ◌∙◌, subst}
 use mathlib.Core.Logic.{inl}
@@ -21,7 +21,8 @@ use Rattle.engine.specs.declared.Listing.{Listing}
 use Rattle.engine.specs.declared.Searched.{Searched}
 use Rattle.engine.specs.declared.Compared.{Compared}
 use Rattle.engine.specs.Post.{FramePost, ListPost, SearchPost, ClosenessPost}
-use Rattle.fennelrake.specs.Entry.{frame_answer, list_answer, search_answer, closeness_answer, Output, heard_reply, heard_list, no_entry, heard_listing, heard_search, heard_closeness, FrameEntry, ListEntry, SearchEntry, ClosenessEntry}
+use Rattle.fennelrake.specs.Entry.{frame_answer, list_answer, search_answer, closeness_answer, FrameEntry, ListEntry, SearchEntry, ClosenessEntry}
+use Rattle.fennelrake.specs.Entry.{Output, heard_reply, heard_list, no_entry, heard_listing, heard_search, heard_closeness}
 
 output_same : (written number : ℕ) (a : List ℕ) → Output written number a a
 output_same written number a = record { long = refl; past = refl; refused = λ _. refl }
@@ -58,19 +59,6 @@ two_words {x} {y} a a₁ a₂ h fx fy e₁ e₂ = record {
 
 -- ---- frame
 
-pub frame_short : {s bytes a : List ℕ} → length a < frame_answer → FrameEntry s bytes a 12 s a
-frame_short {a = a} h = record { short = λ _. (refl, refl); enough = λ k. absurd (omega arith); output = output_same frame_answer 12 a }
-
-pub frame_refused : {s bytes a s' : List ℕ} {r : Reply} → frame_answer ≤ length a → (r.number ≡ 0 → ⊥) → FramePost s bytes r s' → FrameEntry s bytes a r.number s' a
-frame_refused {s} {bytes} {a} {s'} {r} h nz p = record {
-  short = λ k. absurd (omega arith);
-  enough = λ _. subst (λ (x : Reply). FramePost s bytes x s') same p;
-  output = output_same frame_answer r.number a;
-}
-  where
-    same : r ≡ heard_reply r.number a
-    same = rw (ne_eqb r.number 0 nz) (λ i. record { number = r.number; marks = (p.unchanged nz).1 i; departures = (p.unchanged nz).2 i })
-
 pub frame_accepted : {s bytes a a₁ a₂ s' : List ℕ} (r : Reply) → frame_answer ≤ length a → Fits w32 r.marks → Fits w32 r.departures
     → a₁ ≡ put_big a 0 r.marks → a₂ ≡ put_big a₁ 1 r.departures → r.number ≡ 0 → FramePost s bytes r s' → FrameEntry s bytes a r.number s' a₂
 frame_accepted {s} {bytes} {a} {a₁} {a₂} {s'} r h fm fd e₁ e₂ z p =
@@ -84,9 +72,6 @@ frame_accepted {s} {bytes} {a} {a₁} {a₂} {s'} r h fm fd e₁ e₂ z p =
     })
 
 -- ---- list
-
-pub list_short : {s a : List ℕ} {n : ℕ} → length a < list_answer → ListEntry s n a 12 a
-list_short {a = a} h = record { short = λ _. refl; enough = λ k. absurd (omega arith); output = output_same list_answer 12 a }
 
 zeros : (n i : ℕ) → get_or {A = ℕ} (replicate n 0) i 0 ≡ 0
 zeros zero i = refl
@@ -164,10 +149,8 @@ module _ (part a : List ℕ) (r : Listing) (h : list_answer ≤ length a) (lp : 
 
 -- ---- search
 
-pub search_short : {s bytes a : List ℕ} → length a < search_answer → SearchEntry s bytes a 12 a
-search_short {a = a} h = record { short = λ _. refl; enough = λ k. absurd (omega arith); output = output_same search_answer 12 a }
-
-pub search_refused : {s bytes a : List ℕ} {r : Searched} → search_answer ≤ length a → (r.number ≡ 0 → ⊥) → SearchPost s bytes r → SearchEntry s bytes a r.number a
+pub search_refused : {s bytes a : List ℕ} {r : Searched} → search_answer ≤ length a → (r.number ≡ 0 → ⊥) → SearchPost s bytes r
+    → SearchEntry s bytes a r.number a
 search_refused {s} {bytes} {a} {r} h nz p = record {
   short = λ k. absurd (omega arith);
   enough = λ _. rw (ne_eqb r.number 0 nz) nothing;
@@ -235,20 +218,6 @@ module _ (part a a₁ : List ℕ) (r : Searched) (h : search_answer ≤ length a
       same = λ i. record { number = z i; list = heard_list_lem part a₁ r.list lp ls lc e i; read = sym heard_read i }
 
 -- ---- closeness
-
-pub closeness_short : {s a : List ℕ} {serial n : ℕ} → length a < closeness_answer → ClosenessEntry s serial n a 12 a
-closeness_short {a = a} h = record { short = λ _. refl; enough = λ k. absurd (omega arith); output = output_same closeness_answer 12 a }
-
-pub closeness_refused : {s a : List ℕ} {serial n : ℕ} {r : Compared} → closeness_answer ≤ length a → (r.number ≡ 0 → ⊥) → ClosenessPost s serial n r
-    → ClosenessEntry s serial n a r.number a
-closeness_refused {s} {a} {serial} {n} {r} h nz p =
-    let z = p.refused nz in
-    let same : r ≡ heard_closeness r.number a = rw (ne_eqb r.number 0 nz) (λ i. record { number = r.number; quotient = z.0 i; remainder = z.1 i }) in
-    record {
-      short = λ k. absurd (omega arith);
-      enough = λ _. subst (ClosenessPost s serial n) same p;
-      output = output_same closeness_answer r.number a;
-    }
 
 pub closeness_accepted : {s a a₁ a₂ : List ℕ} {serial n : ℕ} (r : Compared) → closeness_answer ≤ length a → Fits w32 r.quotient → Fits w32 r.remainder
     → a₁ ≡ put_big a 0 r.quotient → a₂ ≡ put_big a₁ 1 r.remainder → r.number ≡ 0 → ClosenessPost s serial n r → ClosenessEntry s serial n a r.number a₂

@@ -21,11 +21,13 @@ use Rattle.engine.specs.Represents.{Represents, keeping}
 use Rattle.engine.specs.Post.{reply_of, close_of, StartPost}
 use Rattle.engine.proofs.RepresentsLaws.{all_settled}
 use Rattle.engine.proofs.Demand3.{begun, begun_long}
-use Rattle.fennelrake.specs.Entry.{frame_answer, list_answer, search_answer, closeness_answer, heard_reply, heard_listing, heard_search, heard_closeness, FrameEntry, ListEntry, SearchEntry, ClosenessEntry}
+use Rattle.fennelrake.specs.Entry.{frame_answer, list_answer, search_answer, closeness_answer, FrameEntry, ListEntry, SearchEntry, ClosenessEntry}
+use Rattle.fennelrake.specs.Entry.{heard_reply, heard_listing, heard_search, heard_closeness}
 use Rattle.fennelrake.specs.Demand3.{call_of, Calls, log_of, Demand3}
 use Rattle.fennelrake.specs.Demand3.Calls.{none_left, handed}
 use Rattle.fennelrake.proofs.AnswerLaws.{none_tidy}
-use Rattle.fennelrake.proofs.LentLaws.{after_enough, reply_enough, marked_enough, after_short, reply_short, list_enough, lines_enough, list_short, lines_short, search_enough, search_short, compare_enough, compare_short, closeness_enough, closeness_short}
+use Rattle.fennelrake.proofs.LentLaws.{after_enough, reply_enough, marked_enough, after_short, reply_short, list_enough, lines_enough}
+use Rattle.fennelrake.proofs.LentLaws.{list_short, lines_short, search_enough, search_short, compare_enough, compare_short, closeness_enough, closeness_short}
 use Rattle.fennelrake.proofs.LentLaws as Lent
 
 -- enough bytes, or too few
@@ -48,7 +50,9 @@ module _ (log : Log) (s bytes a : List ℕ) (r : ℕ) (s' a' : List ℕ) (is : R
   abbrev answers : reply_of (heard_reply r a') ≡ reply_to frame_answer log (keeping (words s)) (call_of s bytes a)
       → ((q : ℕ) → q < numbers → marked_by frame_answer log (keeping (words s)) (call_of s bytes a) q ≡ false → keeping (words s') q ≡ keeping (words s) q)
       → Answered frame_answer log (keeping (words s)) (call_of s bytes a) (reply_of (heard_reply r a')) (keeping (words s'))
-  answers = answered_by_log frame_answer log (keeping (words s)) (call_of s bytes a) (reply_of (heard_reply r a')) (keeping (words s')) (all_settled log (words s) is)
+  answers =
+      answered_by_log frame_answer log (keeping (words s)) (call_of s bytes a) (reply_of (heard_reply r a')) (keeping (words s'))
+      (all_settled log (words s) is)
 
   step_enough : frame_answer ≤ length a → Stepped log s bytes a r s' a'
   step_enough h =
@@ -151,11 +155,19 @@ module _ (log : Log) (s : List ℕ) (serial n : ℕ) (a a' : List ℕ) (r : ℕ)
   close_enough : closeness_answer ≤ length a → HeardCloseness
   close_enough h =
       let t = (p.enough h).right log is l in
-      rw (compare_enough closeness_answer log state_length (length a) serial n h, closeness_enough closeness_answer log state_length (length a) serial n h, ← l) t
+      rw (
+        compare_enough closeness_answer log state_length (length a) serial n h,
+        closeness_enough closeness_answer log state_length (length a) serial n h,
+        ← l,
+      ) t
 
   close_short : length a < closeness_answer → HeardCloseness
   close_short h =
-      rw (p.short h, compare_short closeness_answer log state_length (length a) serial n h, closeness_short closeness_answer log state_length (length a) serial n h)
+      rw (
+        p.short h,
+        compare_short closeness_answer log state_length (length a) serial n h,
+        closeness_short closeness_answer log state_length (length a) serial n h,
+      )
       (refl, refl)
 
   compared : HeardCloseness

@@ -9,7 +9,8 @@ use borrow.Author.Tests.{le-leb, lt-leb}
 use Rattle.paper.specs.Frame.{shape}
 use Rattle.paper.specs.Rank.{Line}
 use Rattle.paper.specs.Layout.{state_length}
-use Rattle.paper.specs.Log.{Log, Call, lent, judge_shape, judge, accept_shape, after, departures_shape, departures, in_force_now, has_serial, is_in_use, query_at, judge_list, list_of, listed, seen}
+use Rattle.paper.specs.Log.{Log, Call, lent, judge_shape, judge, accept_shape, after, departures_shape, departures}
+use Rattle.paper.specs.Log.{in_force_now, has_serial, is_in_use, query_at, judge_list, list_of, listed, seen}
 use Rattle.paper.specs.Search.{Outcome, asked, refusal_of, query_in, nothing, found_for, judge_search, found}
 use Rattle.paper.specs.Closeness.{Closeness, pairs_of, judge_closeness, unasked, closeness_to, closeness_in}
 use Rattle.paper.specs.Demand3.{Keeping, Reply, marks_shape, reply_to, marked_shape, marked_by}

@@ -19,8 +19,7 @@ use Rattle.paper.proofs.WriteLaws.{unknown_kind, fields_valid}
 use Rattle.memory.proofs.ArrayLaws.{copy_more}
 use Rattle.frame.specs.declared.Written.{Written}
 use Rattle.frame.specs.Write.{fields, WritePost}
-use Rattle.engine.specs.declared.Found.{Found}
-use Rattle.fennelrake.specs.Entry.{heard_found, terms_of, heard_writing}
+use Rattle.fennelrake.specs.Entry.{terms_of, heard_writing}
 
 -- ---- terms of two bytes
 
@@ -46,9 +45,6 @@ pub record Decoding (count i : ℕ) (bytes a : List ℕ) : Type 0 where
   pub wide : length a ≡ most_pairs
   pub same : take i a ≡ take i (terms_of bytes)
 
-pub decoding_none : {count i : ℕ} {bytes a : List ℕ} → i ≡ 0 → length a ≡ most_pairs → Decoding count i bytes a
-decoding_none z l = rw z (record { bound = omega arith; wide = l; same = refl })
-
 pub decoding_more : {count i v : ℕ} {bytes a : List ℕ} → count ≤ most_pairs → 2 * count ≤ length bytes → i < count
     → v ≡ get_or bytes (2 * i) 0 * 256 + get_or bytes (2 * i + 1) 0 → Decoding count i bytes a → Decoding count (i + 1) bytes (set a i v)
 decoding_more {count} {i} {v} {bytes} {a} m h k e p = record {
@@ -58,9 +54,6 @@ decoding_more {count} {i} {v} {bytes} {a} m h k e p = record {
       let l = length_terms bytes in
       rw (e ∙ sym (get_term bytes i (omega arith))) (copy_more a (terms_of bytes) i (omega arith) (omega arith) p.same);
 }
-
-pub decoding_all : {count i : ℕ} {bytes a : List ℕ} → count ≤ i → Decoding count i bytes a → take count a ≡ take count (terms_of bytes)
-decoding_all {count} {i} {bytes} {a} h p = let e : i ≡ count = omega arith in rw e at p.same
 
 -- ---- later terms are never looked at
 
@@ -136,9 +129,6 @@ both_heard : (number size : ℕ) → size < 4294967296
     → (number ≡ (number * 4294967296 + size) / 4294967296) × (size ≡ (number * 4294967296 + size) % 4294967296)
 both_heard number size h = (omega arith, omega arith)
 
-pub found_heard : (r : Found) → r.count < 4294967296 → r ≡ heard_found (r.number * 4294967296 + r.count)
-found_heard r h = let e = both_heard r.number r.count h in λ i. record { number = e.0 i; count = e.1 i }
-
 -- no frame has more than 80 bytes
 pub written_most : (x : Fields) {s t : List ℕ} {w : Written} → WritePost (from_fields x) s t w → w.length ≤ 80
 unfolding total
@@ -149,7 +139,8 @@ written_most x {w = w} p = go (from_fields x) refl (eqb w.number 0) p.size
     go (refused n) e true l = omega arith
     go (accepted f) e true l = let m = encode_most f (fields_valid x f e) in omega arith
 
-pub write_heard : (x : Fields) (count : ℕ) {first s t : List ℕ} {w : Written} → first ≡ take count x.terms → count ≤ most_pairs → (count < most_pairs → count ≡ length x.terms)
+pub write_heard : (x : Fields) (count : ℕ) {first s t : List ℕ} {w : Written} → first ≡ take count x.terms → count ≤ most_pairs
+    → (count < most_pairs → count ≡ length x.terms)
     → WritePost (from_fields (with_terms x first)) s t w → WritePost (from_fields x) s t (heard_writing (w.number * 4294967296 + w.length))
 write_heard x count {first} {s} {t} {w} e h all p =
     let m : w.length ≤ 80 = written_most (with_terms x first) p in

@@ -13,7 +13,8 @@ use Rattle.rank.specs.Listing.{lines_of, TidyLines}
 use Rattle.screen.specs.Lines.{lines_into}
 use Rattle.engine.specs.Represents.{keeping}
 use Rattle.engine.specs.Post.{reply_of, posted_into, PostingsPost, close_of, ScreenPost}
-use Rattle.fennelrake.specs.Entry.{frame_answer, list_answer, search_answer, closeness_answer, heard_reply, heard_listing, heard_search, heard_closeness, heard_found, FrameEntry, ListEntry, SearchEntry, ClosenessEntry}
+use Rattle.fennelrake.specs.Entry.{frame_answer, list_answer, search_answer, closeness_answer, FrameEntry, ListEntry, SearchEntry, ClosenessEntry}
+use Rattle.fennelrake.specs.Entry.{heard_reply, heard_listing, heard_search, heard_closeness, heard_found}
 
 -- what the paper log is fed: the bytes and the lengths lent
 abbrev pub call_of : (s bytes a : List ℕ) → Call

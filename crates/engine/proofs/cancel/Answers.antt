@@ -1,20 +1,13 @@
 -- `cancel` meets its contract. Assumes nothing.
 use native.Mathlib.Omega.{arith}
 use mathlib.Core.Path.{refl}
-use Rattle.engine.proofs.KindLaws.{late, unknown, cancel_done}
+use Rattle.engine.proofs.KindLaws.{unknown, cancel_done}
 use Rattle.engine.proofs.cancel.Goals as goal
 
-pub returns-then-time-before : goal.returns-then-time-before
-returns-then-time-before c = search late
-
--- On the way back: `sought` is where the serial was looked for, `aged` where past messages left.
 pub returns-then-cancelled-ge-SLOTS : goal.returns-then-cancelled-ge-SLOTS
 returns-then-cancelled-ge-SLOTS c =
     let loaded = c.load-before.ensures in
     unknown loaded c.get-life.ensures c.advanced-after.ensures (omega arith) c.slot_of-cancelled.ensures (omega arith) c.refused-then-cancelled-ge-SLOTS.ensures
-
-pub overflow_add-result : goal.overflow_add-result
-overflow_add-result c = record { fits = omega (arith, c.depart-reply.ensures.few) }
 
 pub returns : goal.returns
 returns c =

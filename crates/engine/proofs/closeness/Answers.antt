@@ -1,15 +1,8 @@
 -- `closeness` meets its contract. Assumes nothing.
-use Prim.Native.Nat.{◌<◌}
 use native.Mathlib.Omega.{arith}
-use mathlib.Core.Path.{refl, sym, ◌∙◌}
-use Rattle.paper.specs.Frame.{numbers}
-use Rattle.memory.specs.Words.{words}
-use Rattle.engine.proofs.RepresentsLaws.{registered_below}
-use Rattle.engine.proofs.ClosenessLaws.{closeness_not_lent, closeness_above, closeness_unknown, closeness_unused, closeness_right}
+use mathlib.Core.Path.{refl}
+use Rattle.engine.proofs.ClosenessLaws.{closeness_above, closeness_unknown, closeness_unused, closeness_right}
 use Rattle.engine.proofs.closeness.Goals as goal
-
-pub returns-then-state-ne-STATE : goal.returns-then-state-ne-STATE
-returns-then-state-ne-STATE c = (closeness_not_lent _ _ _ _ (λ e. omega arith) c.uncompared.ensures, refl)
 
 pub returns-then-serial-ge-SERIALS : goal.returns-then-serial-ge-SERIALS
 returns-then-serial-ge-SERIALS c = (closeness_above _ _ _ (omega arith) _ (omega arith) c.uncompared-then-serial-ge-SERIALS.ensures, refl)
@@ -24,18 +17,6 @@ returns-then-not-used c = (
       c.if-not-used.true c.uncompared-then-not-used.ensures,
   refl,
 )
-
-pub load_query-query-requires : goal.load_query-query-requires
-load_query-query-requires c =
-    let below : c.args.number < numbers =
-    let a = c.args in
-    registered_below (words a.state.now) a.number (sym c.registered-used.ensures ∙ c.if-not-used.false) in
-    (omega arith, below)
-
-pub of-close-requires : goal.of-close-requires
-of-close-requires c =
-    let range = c.load_query-query.ensures.in_range in
-    (omega arith, omega arith, range.n_most, λ i h. range.weights_most i (omega (arith, range.n_most)))
 
 pub returns : goal.returns
 returns c = (

@@ -5,22 +5,12 @@ use mathlib.Core.Path.{◌≡◌, refl, ap, ◌∙◌}
 use lib.ListN.{length}
 use Rattle.paper.specs.Frame.{numbers}
 use Rattle.memory.specs.Words.{words}
-use Rattle.engine.proofs.MarkLaws.{marks_fit}
 use Rattle.engine.proofs.PassedLaws.{passed_none, turn_unused, turn_unreached, turn_reached}
 use Rattle.engine.proofs.pass.Goals as goal
 use Rattle.engine.proofs.pass.Goals.{then-in_use+then-update, then-in_use+else-update, else-in_use}
 
 pub loop-q-init : goal.loop-q-init
 loop-q-init c = (omega arith, refl, passed_none _)
-
-pub in_use-requires : goal.in_use-requires
-in_use-requires c = (omega arith, omega arith)
-
-pub overflow_add-marks : goal.overflow_add-marks
-overflow_add-marks c =
-    let l = c.loop-q in
-    let h = marks_fit l.q (omega arith) l.invariant.2.small in
-    record { fits = rw c.pow2-marks.ensures h }
 
 pub loop-q-preserved : goal.loop-q-preserved
 loop-q-preserved c =
@@ -36,7 +26,8 @@ loop-q-preserved c =
       | then-in_use+else-update u ↦ (
         omega arith,
         omega (arith, ap length u.state-is),
-        turn_unreached l.q _ _ (omega arith) (omega arith) l.invariant.2 used u.if-in_use.true u.update.ensures u.if-update.false (ap words u.state-is) u.marks-is,
+        turn_unreached l.q _ _ (omega arith) (omega arith) l.invariant.2 used u.if-in_use.true u.update.ensures u.if-update.false
+            (ap words u.state-is) u.marks-is,
       )
       | else-in_use u ↦ (
         omega arith,
@@ -44,9 +35,6 @@ loop-q-preserved c =
         turn_unused l.q _ _ (omega arith) (omega arith) l.invariant.2 used u.if-in_use.false (ap words u.state-is) u.marks-is,
       )
     ]
-
-pub shape_of-state : goal.shape_of-state
-shape_of-state c = c.loop-q.invariant.1
 
 pub returns : goal.returns
 returns c = let e : c.loop-q.q ≡ numbers = omega arith in rw e at c.loop-q.invariant.2

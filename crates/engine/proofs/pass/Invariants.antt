@@ -8,7 +8,9 @@ use Rattle.engine.specs.Inner.{Passed}
 use Rattle.engine.proofs.pass.Given as goal
 
 abbrev pub invariant-loop-q : goal.invariant-loop-q
-invariant-loop-q l = (l.q ≤ numbers) × (length l.state ≡ length l.initial.state) × Passed l.q (words l.initial.state) l.moved l.coming l.going l.marks (words l.state)
+invariant-loop-q l = (l.q ≤ numbers)
+    × (length l.state ≡ length l.initial.state)
+    × Passed l.q (words l.initial.state) l.moved l.coming l.going l.marks (words l.state)
 
 abbrev pub decreases-loop-q : goal.decreases-loop-q
 decreases-loop-q l = numbers - l.q

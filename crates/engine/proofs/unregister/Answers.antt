@@ -1,11 +1,7 @@
 -- `unregister` meets its contract. Assumes nothing.
-use Rattle.engine.proofs.KindLaws.{late}
 use Rattle.engine.proofs.NumberLaws.{number_free, unregister_done}
 use borrow.Author.Rules.{rules}
 use Rattle.engine.proofs.unregister.Goals as goal
-
-pub returns-then-time-get : goal.returns-then-time-get
-returns-then-time-get c = search late
 
 pub returns-then-not-in_use : goal.returns-then-not-in_use
 returns-then-not-in_use c = search (rules, number_free)

@@ -4,7 +4,6 @@ use Rattle.window.proofs.TableLaws.{table_of}
 use Rattle.engine.proofs.ArrivingLaws.{table_leaving}
 use Rattle.engine.proofs.update_all.Goals as goal
 
--- On the way back: the pass, the silence before it, and the tables' three parts.
 pub returns : goal.returns
 returns c =
     let a = c.args in
