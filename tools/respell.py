@@ -1,7 +1,7 @@
 #!/usr/bin/env python3
 """Brings the repository's own definitions and lemmas to today's spelling: words in snake case, types and modules in camel case.
 
-usage: python3 tools/respell.py            at the top, once, right after /opt/rattle/port/port.py
+usage: python3 tools/respell.py            at the top, once, right after port.py of the kit
        python3 tools/respell.py --dry      says what would fall together, and writes nothing
 
 A name is the repository's own where a file of specs/ or proofs/ declares it: a definition, a lemma, a field, or a name under a `where`. A name that a
