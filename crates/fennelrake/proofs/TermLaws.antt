@@ -19,7 +19,8 @@ use Rattle.paper.proofs.WriteLaws.{unknown_kind, fields_valid}
 use Rattle.memory.proofs.ArrayLaws.{copy_more}
 use Rattle.frame.specs.declared.Written.{Written}
 use Rattle.frame.specs.Write.{fields, WritePost}
-use Rattle.fennelrake.specs.Entry.{terms_of, heard_writing}
+use Rattle.engine.specs.declared.Found.{Found}
+use Rattle.fennelrake.specs.Entry.{heard_found, terms_of, heard_writing}
 
 -- ---- terms of two bytes
 
@@ -128,6 +129,9 @@ take_cut count ts h all = go (leb most_pairs count) refl
 both_heard : (number size : ℕ) → size < 4294967296
     → (number ≡ (number * 4294967296 + size) / 4294967296) × (size ≡ (number * 4294967296 + size) % 4294967296)
 both_heard number size h = (omega arith, omega arith)
+
+pub found_heard : (r : Found) → r.count < 4294967296 → r ≡ heard_found (r.number * 4294967296 + r.count)
+found_heard r h = let e = both_heard r.number r.count h in λ i. record { number = e.0 i; count = e.1 i }
 
 -- no frame has more than 80 bytes
 pub written_most : (x : Fields) {s t : List ℕ} {w : Written} → WritePost (from_fields x) s t w → w.length ≤ 80

@@ -5,7 +5,7 @@ use mathlib.Core.Path.{◌≡◌, refl, sym, ap, ap₂, ◌∙◌}
 use mathlib.Core.List.{List, [], ◌∷◌, ◌++◌, map}
 use lib.ListN.{length, get_or, take, drop, length-take, length-drop, get_or-map}
 use lib.Seq.{get_or-take, get_or-drop}
-use borrow.Author.Tests.{eq-eqb, le-leb, le-ltb, lt-ltb}
+use borrow.Author.Tests.{eq-eqb, ne_eqb, le-leb, le-ltb, lt-ltb}
 use Rattle.paper.specs.Frame.{numbers, most_listed}
 use Rattle.paper.specs.Rank.{key_factor}
 use Rattle.paper.specs.Layout.{slots, state_words, listed_in, serials_in, keys_in, record_at}
@@ -64,7 +64,15 @@ module _ (w : List ℕ) (q : ℕ) (long : length w ≡ state_words) (number : q 
         (omega (arith, sixteen (serials_in q) (omega arith))) (omega (arith, sixteen (keys_in q) (omega arith))))
         ∙ word_at (keys_in q) (n - 1) (omega arith))
 
-    -- of a full list
+    -- one that isn't full, and one that is
+    pub least_short : (n ≡ get_or w (record_at q) 0 → 0 < n → ⊥) → Least w q key_factor
+    least_short short = record {
+      is = λ query terms says most.
+          let e = says.k in
+          let p = terms.k_least in
+          rw (ne_eqb (length (keys w q)) query.k (λ z. short (omega arith) (omega arith)));
+    }
+
     pub least_full : n ≡ get_or w (record_at q) 0 → 0 < n → {r : ℕ} → r ≡ get_or w (keys_in q + (n - 1)) 0 → Least w q r
     least_full full some read = record {
       is = λ query terms says most.
