@@ -8,6 +8,7 @@ pub mod Order
 pub mod Threshold
 pub mod Layout
 pub mod Log
+pub mod Refusal
 pub mod Demand3
 pub mod Search
 pub mod Closeness

@@ -1,7 +1,13 @@
-// What the engine promises, as definitions: specs/ follows the document, proofs/ has their laws. The only code is the sizes that other code shares.
+// What the engine promises, as definitions: specs/ follows the document, proofs/ has their laws. The only code is the sizes and the refusals that other code shares.
 #![tactic(auto)]
 
 pub mod layout;
+pub mod refusal;
+
+pub use refusal::Refusal;
+
+// The state memory that a host lends.
+pub type State = [u8; layout::STATE];
 
 // The most pairs of a message, terms of a query and entries of a list.
 pub const MOST_PAIRS: usize = 32;
