@@ -36,81 +36,25 @@ pub fn put(s: &mut [u8], i: usize, v: u32)
     s[at + 3] = (v / 16777216 % 256) as u8;
 }
 
-// Eight words from index i on.
-pub fn load8(s: &[u8], i: usize) -> [u32; 8]
-    requires { 4 * (i + 8) ≤ length s.now }
-    ensures { result ≡ take 8 (drop i (words s.now)) }
+// N words from index i on.
+pub fn load<const N: usize>(s: &[u8], i: usize) -> [u32; N]
+    requires { 4 * (i + N) ≤ length s.now }
+    ensures { result ≡ take N (drop i (words s.now)) }
 {
-    let mut a = [0u32; 8];
-    let mut n: usize = 0;
-    while n < 8 {
+    let mut a = [0u32; N];
+    for n in 0..N {
         a[n] = get(s, i + n);
-        n += 1;
     }
     a
 }
 
-// Nine words from index i on.
-pub fn load9(s: &[u8], i: usize) -> [u32; 9]
-    requires { 4 * (i + 9) ≤ length s.now }
-    ensures { result ≡ take 9 (drop i (words s.now)) }
+// N words are written from index i on.
+pub fn store<const N: usize>(s: &mut [u8], i: usize, a: [u32; N])
+    requires { 4 * (i + N) ≤ length s.old }
+    ensures { Stored i N a (words s.old) (words s.new) }
 {
-    let mut a = [0u32; 9];
-    let mut n: usize = 0;
-    while n < 9 {
-        a[n] = get(s, i + n);
-        n += 1;
-    }
-    a
-}
-
-// Sixteen words from index i on.
-pub fn load16(s: &[u8], i: usize) -> [u32; 16]
-    requires { 4 * (i + 16) ≤ length s.now }
-    ensures { result ≡ take 16 (drop i (words s.now)) }
-{
-    let mut a = [0u32; 16];
-    let mut n: usize = 0;
-    while n < 16 {
-        a[n] = get(s, i + n);
-        n += 1;
-    }
-    a
-}
-
-// Eight words are written from index i on.
-pub fn store8(s: &mut [u8], i: usize, a: [u32; 8])
-    requires { 4 * (i + 8) ≤ length s.old }
-    ensures { Stored i 8 a (words s.old) (words s.new) }
-{
-    let mut n: usize = 0;
-    while n < 8 {
+    for n in 0..N {
         put(s, i + n, a[n]);
-        n += 1;
-    }
-}
-
-// Nine words are written from index i on.
-pub fn store9(s: &mut [u8], i: usize, a: [u32; 9])
-    requires { 4 * (i + 9) ≤ length s.old }
-    ensures { Stored i 9 a (words s.old) (words s.new) }
-{
-    let mut n: usize = 0;
-    while n < 9 {
-        put(s, i + n, a[n]);
-        n += 1;
-    }
-}
-
-// Sixteen words are written from index i on.
-pub fn store16(s: &mut [u8], i: usize, a: [u32; 16])
-    requires { 4 * (i + 16) ≤ length s.old }
-    ensures { Stored i 16 a (words s.old) (words s.new) }
-{
-    let mut n: usize = 0;
-    while n < 16 {
-        put(s, i + n, a[n]);
-        n += 1;
     }
 }
 
@@ -139,14 +83,12 @@ pub fn put_big(s: &mut [u8], i: usize, v: u32)
     s[at + 3] = (v % 256) as u8;
 }
 
-// Sixteen words are written for a host, from index i on.
-pub fn store16_big(s: &mut [u8], i: usize, a: [u32; 16])
-    requires { 4 * (i + 16) ≤ length s.old }
-    ensures { Stored i 16 a (big_words s.old) (big_words s.new) }
+// N words are written for a host, from index i on.
+pub fn store_big<const N: usize>(s: &mut [u8], i: usize, a: [u32; N])
+    requires { 4 * (i + N) ≤ length s.old }
+    ensures { Stored i N a (big_words s.old) (big_words s.new) }
 {
-    let mut n: usize = 0;
-    while n < 16 {
+    for n in 0..N {
         put_big(s, i + n, a[n]);
-        n += 1;
     }
 }
