@@ -54,38 +54,34 @@ module _ (s : ℕ) where
     serial_none o n z = rw z
 
     -- slot j, after those from slot o up to it
-    pub serial_more : (o j : ℕ) → o ≤ j → j < slots → {x : ℕ} → x ≡ (slot w j).serial → {b d : Bool} → b ≡ holds_serial s (window w o (j - o))
-        → d ≡ (b || eqb x s) → d ≡ holds_serial s (window w o (j + 1 - o))
+    pub serial_more : (o j : ℕ) → o ≤ j → j < slots → {x : ℕ} → x ≡ (slot w j).serial → {b : Bool} → b ≡ holds_serial s (window w o (j - o))
+        → (b || eqb x s) ≡ holds_serial s (window w o (j + 1 - o))
     unfolding holds_serial
-    serial_more o j h k read e q =
+    serial_more o j h k read e =
         let n : j + 1 - o ≡ suc (j - o) = omega arith in
         let p : (o + (j - o)) % slots ≡ j = omega arith in
-        rw (q, e, read, n, ring_last o (j - o) (omega arith), p, map-append (slot w) (ring o (j - o)) (j ∷ []), holds_append, or-false)
+        rw (e, read, n, ring_last o (j - o) (omega arith), p, map-append (slot w) (ring o (j - o)) (j ∷ []), holds_append, or-false)
 
     -- a window that goes around, in two parts
-    pub serial_parts : (o n m : ℕ) → o < slots → slots ≤ o + n → m ≡ o + n - slots → {a b d : Bool} → a ≡ holds_serial s (window w o (slots - o))
-        → b ≡ holds_serial s (window w 0 m) → d ≡ (a || b) → d ≡ holds_serial s (window w o n)
-    serial_parts o n m h k z e f q = rw (q, e, f, z, ring_cut o n h k, map-append (slot w) (ring o (slots - o)) (ring 0 (o + n - slots)), holds_append)
+    pub serial_parts : (o n m : ℕ) → o < slots → slots ≤ o + n → m ≡ o + n - slots → {a b : Bool} → a ≡ holds_serial s (window w o (slots - o))
+        → b ≡ holds_serial s (window w 0 m) → (a || b) ≡ holds_serial s (window w o n)
+    serial_parts o n m h k z e f = rw (e, f, z, ring_cut o n h k, map-append (slot w) (ring o (slots - o)) (ring 0 (o + n - slots)), holds_append)
 
 -- ---- the first slot that has it
 
 module _ (w : List ℕ) (s o n : ℕ) where
-  pub seek_none : n ≤ 0 → slots ≡ seek w s (ring o n)
+  pub seek_none : n ≤ 0 → seek w s (ring o n) ≡ slots
   unfolding seek
   seek_none h = rw (ring_none o n h)
 
   module _ (some : 0 < n) {x : ℕ} (read : x ≡ (slot w o).serial) where
-    pub seek_here : x ≡ s → o ≡ seek w s (ring o n)
+    pub seek_here : x ≡ s → seek w s (ring o n) ≡ o
     unfolding seek
     seek_here e = rw (ring_step o n some, eq-eqb (slot w o).serial s (sym read ∙ e))
 
     pub seek_next : (x ≡ s → ⊥) → {p : ℕ} → p ≡ next o → seek w s (ring p (n - 1)) ≡ seek w s (ring o n)
     unfolding seek
     seek_next ne e = rw (e, ring_step o n some, ne_eqb (slot w o).serial s (λ z. ne (read ∙ z)))
-
--- none of the slots from `first` up to slot j has it, and `left` are yet to be looked at
-abbrev pub Unseen : (w : List ℕ) (s first count j left : ℕ) → Type 0
-Unseen w s first count j left = (j < slots) × (seek w s (ring j left) ≡ seek w s (ring first count))
 
 -- slots that don't have it are passed over
 seek_past : (w : List ℕ) (s : ℕ) (xs ys : List ℕ) → holds_serial s (map (slot w) xs) ≡ false → seek w s (xs ++ ys) ≡ seek w s ys
@@ -127,12 +123,11 @@ seek_cases w s (j ∷ js) =
 
 -- those before slot j are counted
 pub record Counting (w : List ℕ) (first count found j left : ℕ) : Type 0 where
-  pub below : j < slots
   pub most : found + left ≤ count
   number : found + length (live w (ring j left)) ≡ length (live w (ring first count))
 
-pub counting_start : {w : List ℕ} {first count : ℕ} → first < slots → Counting w first count 0 first count
-counting_start low = record { below = low; most = omega arith; number = omega arith }
+pub counting_start : {w : List ℕ} {first count : ℕ} → Counting w first count 0 first count
+counting_start = record { most = omega arith; number = omega arith }
 
 module _ {w : List ℕ} {first count found j left : ℕ} (c : Counting w first count found j left) where
   module _ (some : 0 < left) {v p : ℕ} (read : v ≡ size_at w j) (e : p ≡ next j) where
@@ -142,15 +137,13 @@ module _ {w : List ℕ} {first count found j left : ℕ} (c : Counting w first c
 
     pub counting_hit : 0 < v → Counting w first count (found + 1) p (left - 1)
     counting_hit h =
-        let l = ap length (step ∙ ap (λ (b : Bool). cond b (j ∷ live w (ring p (left - 1))) (live w (ring p (left - 1))))
-        (lt-ltb 0 (get_or w (cell_count_at j) 0 % cell_limit) (omega arith))) in
-        record { below = omega (arith, c.below); most = omega (arith, c.most); number = omega (arith, c.number) }
+        let l = ap length (rw (lt-ltb 0 (get_or w (cell_count_at j) 0 % cell_limit) (omega arith)) at step) in
+        record { most = omega (arith, c.most); number = omega (arith, c.number) }
 
     pub counting_miss : v ≤ 0 → Counting w first count found p (left - 1)
     counting_miss h =
-        let l = ap length (step ∙ ap (λ (b : Bool). cond b (j ∷ live w (ring p (left - 1))) (live w (ring p (left - 1))))
-        (le-ltb 0 (get_or w (cell_count_at j) 0 % cell_limit) (omega arith))) in
-        record { below = omega (arith, c.below); most = omega (arith, c.most); number = omega (arith, c.number) }
+        let l = ap length (rw (le-ltb 0 (get_or w (cell_count_at j) 0 % cell_limit) (omega arith)) at step) in
+        record { most = omega (arith, c.most); number = omega (arith, c.number) }
 
   pub counting_end : left ≤ 0 → (found ≡ length (live w (ring first count))) × (found ≤ count)
   unfolding live select
