@@ -8,7 +8,7 @@ use mathlib.Core.Bool.{Bool, true, false, cond, ◌&&◌, ◌||◌, and_comm}
 use mathlib.Core.Logic.{◌⊎◌, inl, inr, ⊎_elim}
 use mathlib.Core.List.{List, [], ◌∷◌, ◌++◌, map, append-nil}
 use lib.ListN.{length, get_or, set, take, drop, length-set, drop_of_length-le}
-use lib.Seq.{get_or-set_same, get_or-set_other, get_or-take, take-set-le, take-suc-set, drop-cons, append_snoc, length-take-le}
+use lib.Seq.{get_or-set_same, get_or-set_other, take-set-le, take-suc-set, drop-cons, append_snoc}
 use lib.Dec.{eqb, ltb}
 use Rattle.std.specs.Int.{from_bool}
 use borrow.Author.Count.{below_more}
@@ -37,7 +37,7 @@ use Rattle.candidates.specs.Post.{Rising, WithFlag, terms_of, line_in, grows}
 use Rattle.candidates.specs.Match.{score_cells, exceeds_cells}
 use Rattle.candidates.proofs.MatchLaws.{select_agree}
 use Rattle.candidates.proofs.WalkLaws.{flag_stands}
-use Rattle.candidates.specs.Rows.{Known, Placed, RowOf, Having, Gathered, Looked, among, shares}
+use Rattle.candidates.specs.Rows.{Known, Placed, RowOf, Having, Gathered, among, shares}
 
 -- ---- slots picked
 
@@ -156,12 +156,6 @@ looking_more w js q places rows rows' i few table new before = record {
         ∙ new.is (suc p) (omega arith)
         ∙ ap (found places (suc p) (slot w (get_or js i 0)).cells) (before.blank (row_width * i + suc p) (omega arith))
         ∙ found_lookup q places table r t p l (slot w (get_or js i 0)).cells
-
-pub looked_all : (w js : List ℕ) (q : Query) (rows : List ℕ) (i : ℕ) → length js ≤ i → length rows ≡ row_width * slots → Looking w js q rows i → Looked w js q rows
-looked_all w js q rows i all wide l = record {
-  long = wide;
-  right = record { narrow = l.narrow; right = λ r t x y p o. l.right r t x (omega arith) p o };
-}
 
 -- ---- slots without one of the query's terms
 
