@@ -21,8 +21,10 @@ const MOST_TERMS: u32 = paper::MOST_TERMS as u32;
 // No posting is as high: a weight has four bits.
 const HEIGHT_LIMIT: u32 = 16 * impact::Impact::TOP * MOST_TERMS;
 
-// Columns of impacts for all terms, with a place for each message of the window.
+// Columns of impacts for all terms, with a place for each message of the window: how many of a column's places are filled is said beside them.
 const COLUMNS: usize = paper::MOST_TERMS * layout::SLOTS;
+
+type AllColumns = [u16; COLUMNS];
 
 #[derive(Clone, Copy)]
 pub struct Outcome {
@@ -41,8 +43,8 @@ fn put_column(rows: &[u16], p: usize, column: &mut [u16])
 }
 
 // The columns of the first m messages looked at in the first n terms.
-fn put_columns(rows: &[u16], m: usize, n: usize, columns: &mut [u16])
-    requires { (length rows.now ≡ row_width * slots) × (m ≤ slots) × (n ≤ most_terms) × (length columns.old ≡ most_terms * slots) }
+fn put_columns(rows: &[u16], m: usize, n: usize, columns: &mut AllColumns)
+    requires { (length rows.now ≡ row_width * slots) × (m ≤ slots) × (n ≤ most_terms) }
     ensures { Columns rows.now m n columns.new }
 {
     for p in 0..n {
@@ -96,8 +98,8 @@ fn count_over(column: &[u16], cap: u16) -> u32
 }
 
 // The column of the term at place p: the impacts of the first m messages.
-fn column_of(columns: &[u16], m: usize, p: usize) -> &[u16]
-    requires { (length columns.now ≡ most_terms * slots) × (m ≤ slots) × (p < most_terms) }
+fn column_of(columns: &AllColumns, m: usize, p: usize) -> &[u16]
+    requires { (m ≤ slots) × (p < most_terms) }
     ensures { result.now ≡ column columns.now m p }
 {
     let start = layout::SLOTS * p;
@@ -105,8 +107,8 @@ fn column_of(columns: &[u16], m: usize, p: usize) -> &[u16]
 }
 
 // The sum of weight × impact of the next postings once all above the cut are read.
-fn sum_at(columns: &[u16], m: usize, query: Query, at: u32) -> u32
-    requires { (length columns.now ≡ most_terms * slots) × (m ≤ slots) × Fit query × (at < height_limit) }
+fn sum_at(columns: &AllColumns, m: usize, query: Query, at: u32) -> u32
+    requires { (m ≤ slots) × Fit query × (at < height_limit) }
     ensures { result ≡ sum_by columns.now m query at }
 {
     let n = query.n;
@@ -121,8 +123,8 @@ fn sum_at(columns: &[u16], m: usize, query: Query, at: u32) -> u32
 }
 
 // How many postings are above the cut.
-fn read_at(columns: &[u16], m: usize, query: Query, at: u32) -> u32
-    requires { (length columns.now ≡ most_terms * slots) × (m ≤ slots) × Fit query × (at < height_limit) }
+fn read_at(columns: &AllColumns, m: usize, query: Query, at: u32) -> u32
+    requires { (m ≤ slots) × Fit query × (at < height_limit) }
     ensures { result ≡ read_by columns.now m query at }
 {
     let n = query.n;
@@ -135,8 +137,8 @@ fn read_at(columns: &[u16], m: usize, query: Query, at: u32) -> u32
 }
 
 // The highest cut at which the next postings sum to less than the score: the search ends there.
-fn end_cut(columns: &[u16], m: usize, query: Query, score: u32) -> u32
-    requires { (length columns.now ≡ most_terms * slots) × (m ≤ slots) × Fit query }
+fn end_cut(columns: &AllColumns, m: usize, query: Query, score: u32) -> u32
+    requires { (m ≤ slots) × Fit query }
     ensures { EndsAt columns.now m query score result }
 {
     let mut low: u32 = 0;
@@ -153,8 +155,8 @@ fn end_cut(columns: &[u16], m: usize, query: Query, score: u32) -> u32
 }
 
 // How many postings are read for this list: all of them where it isn't full.
-fn postings_read(columns: &[u16], m: usize, query: Query, list: Ranked) -> u32
-    requires { (length columns.now ≡ most_terms * slots) × (m ≤ slots) × Fit query × (list.count ≤ most_listed) }
+fn postings_read(columns: &AllColumns, m: usize, query: Query, list: Ranked) -> u32
+    requires { (m ≤ slots) × Fit query × (list.count ≤ most_listed) }
     ensures { ReadFor columns.now m query list result }
 {
     if list.count != query.k {

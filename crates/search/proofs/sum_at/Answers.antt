@@ -15,7 +15,7 @@ loop-p-init c = (omega arith, refl)
 pub loop-p-preserved : goal.loop-p-preserved
 loop-p-preserved c =
     let little : get_or c.args.query.weights c.loop-p.p 0 * c.from.result ≤ 1048576 =
-    product_most _ _ (c.requires.2.weights_most c.loop-p.p (omega arith)) (omega arith) in
+    product_most _ _ (c.requires.1.weights_most c.loop-p.p (omega arith)) (omega arith) in
     let a = c.args in
     let r = c.loop-p in
     let cols = a.columns.now in
