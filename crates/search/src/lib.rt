@@ -111,11 +111,9 @@ fn sum_at(columns: &AllColumns, m: usize, query: Query, at: u32) -> u32
     requires { (m ≤ slots) × Fit query × (at < height_limit) }
     ensures { result ≡ sum_by columns.now m query at }
 {
-    let n = query.n;
-    let weights = query.weights;
     let mut sum: u32 = 0;
-    for p in 0..n {
-        let weight = weights[p];
+    for p in 0..query.n {
+        let weight = query.weights[p];
         let next = next_impact(column_of(columns, m, p), cap(at, p, weight));
         sum += weight * u32::from(next);
     }
@@ -127,11 +125,9 @@ fn read_at(columns: &AllColumns, m: usize, query: Query, at: u32) -> u32
     requires { (m ≤ slots) × Fit query × (at < height_limit) }
     ensures { result ≡ read_by columns.now m query at }
 {
-    let n = query.n;
-    let weights = query.weights;
     let mut count: u32 = 0;
-    for p in 0..n {
-        count += count_over(column_of(columns, m, p), cap(at, p, weights[p]));
+    for p in 0..query.n {
+        count += count_over(column_of(columns, m, p), cap(at, p, query.weights[p]));
     }
     count
 }

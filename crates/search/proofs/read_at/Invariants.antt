@@ -7,4 +7,4 @@ use Rattle.search.specs.Post.{column}
 use Rattle.search.proofs.read_at.Given as goal
 
 abbrev pub invariant-loop-p : goal.invariant-loop-p
-invariant-loop-p l = (l.count ≤ l.p * slots) × (l.count ≡ read_at l.p l.weights (column l.columns l.m) l.at)
+invariant-loop-p l = (l.count ≤ l.p * slots) × (l.count ≡ read_at l.p l.query.weights (column l.columns l.m) l.at)

@@ -6,4 +6,4 @@ use Rattle.search.specs.Post.{column}
 use Rattle.search.proofs.sum_at.Given as goal
 
 abbrev pub invariant-loop-p : goal.invariant-loop-p
-invariant-loop-p l = (l.sum ≤ l.p * 1048576) × (l.sum ≡ sum_at l.p l.weights (column l.columns l.m) l.at)
+invariant-loop-p l = (l.sum ≤ l.p * 1048576) × (l.sum ≡ sum_at l.p l.query.weights (column l.columns l.m) l.at)
