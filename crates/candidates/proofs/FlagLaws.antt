@@ -12,11 +12,17 @@ use lib.Dec.{eqb}
 use borrow.Author.Tests.{eqb-true, eqb-false, eq-eqb, ne_eqb}
 use lib.Pow.{pow_pos, pow-add, high, shr_lt}
 use lib.Arith.{digits_lt}
+use Rattle.std.specs.Int.{from_bool}
 use Rattle.paper.specs.Layout.{slots}
 use Rattle.wire.specs.Bits.{val, odd, bits}
 use Rattle.wire.proofs.BitLaws.{val_lt, odd_val, odd_skip, length_bits, bits_add, bits_skip, bits_mod}
 use Rattle.candidates.specs.Flags.{flag_of}
 use Rattle.candidates.specs.Post.{WithBit, WithFlag}
+
+-- a bit's number, as the code has it
+pub val_from : (b : Bool) → from_bool b ≡ val b
+val_from true = refl
+val_from false = refl
 
 -- bit k of the w lowest bits of v
 pub bit_of : (w v k : ℕ) → k < w → get_or (bits w v) k false ≡ odd (v / 2 ^ (w - 1 - k))

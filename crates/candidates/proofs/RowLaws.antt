@@ -8,8 +8,9 @@ use mathlib.Core.Bool.{Bool, true, false, cond, ◌&&◌, ◌||◌, and_comm}
 use mathlib.Core.Logic.{◌⊎◌, inl, inr, ⊎_elim}
 use mathlib.Core.List.{List, [], ◌∷◌, ◌++◌, map, append-nil}
 use lib.ListN.{length, get_or, set, take, drop, length-set, drop_of_length-le}
-use lib.Seq.{get_or-set_same, get_or-set_other, get_or-take, take-set-le, take-suc-set, drop-cons, append_snoc, length-take-le}
+use lib.Seq.{get_or-set_same, get_or-set_other, take-set-le, take-suc-set, drop-cons, append_snoc}
 use lib.Dec.{eqb, ltb}
+use Rattle.std.specs.Int.{from_bool}
 use borrow.Author.Count.{below_more}
 use borrow.Author.Tests.{eqb-true, eqb-false, ne_eqb, lt-leb, le-ltb, lt-ltb}
 use Rattle.paper.specs.Frame.{most_terms}
@@ -21,7 +22,6 @@ use Rattle.paper.specs.Rank.{key_factor}
 use Rattle.paper.specs.Threshold.{exceeds_by}
 use Rattle.paper.specs.Write.{side_by_side}
 use Rattle.impact.specs.Cell.{cell_term, cell_impact, lookup, RisingTerms}
-use Rattle.wire.specs.Bits.{val}
 use Rattle.paper.proofs.Tests.{by_bool, or_false}
 use Rattle.paper.proofs.SortLaws.{in_append, in_left, in_right}
 use Rattle.rank.specs.Listing.{Keyed, keyed_with, grown}
@@ -37,7 +37,7 @@ use Rattle.candidates.specs.Post.{Rising, WithFlag, terms_of, line_in, grows}
 use Rattle.candidates.specs.Match.{score_cells, exceeds_cells}
 use Rattle.candidates.proofs.MatchLaws.{select_agree}
 use Rattle.candidates.proofs.WalkLaws.{flag_stands}
-use Rattle.candidates.specs.Rows.{Known, Placed, RowOf, Having, Gathered, Looked, among, shares}
+use Rattle.candidates.specs.Rows.{Known, Placed, RowOf, Having, Gathered, among, shares}
 
 -- ---- slots picked
 
@@ -76,7 +76,7 @@ module _ (test : ℕ → Bool) (o count : ℕ) (picked : List ℕ) (m j n : ℕ)
   }
 
   -- by the digit of what was seen
-  pub picking_turn : (b : Bool) → m < slots → j < slots → test j ≡ b → Picking test o count (set picked m j) (m + val b) (next j) (n - 1)
+  pub picking_turn : (b : Bool) → m < slots → j < slots → test j ≡ b → Picking test o count (set picked m j) (m + from_bool b) (next j) (n - 1)
   picking_turn true room low e = picking_more room low e
   picking_turn false room low e = rw (add-zero m) (picking_skipped e)
 
@@ -156,18 +156,6 @@ looking_more w js q places rows rows' i few table new before = record {
         ∙ new.is (suc p) (omega arith)
         ∙ ap (found places (suc p) (slot w (get_or js i 0)).cells) (before.blank (row_width * i + suc p) (omega arith))
         ∙ found_lookup q places table r t p l (slot w (get_or js i 0)).cells
-
-pub looked_all : (w js : List ℕ) (q : Query) (m : ℕ) (rows : List ℕ) (i : ℕ) → m ≤ i → m ≤ length js → length rows ≡ row_width * slots
-    → Looking w js q rows i → Looked w (take m js) q rows
-looked_all w js q m rows i h room wide l = record {
-  long = wide;
-  right = record {
-    narrow = l.narrow;
-    right = λ r t x y p o.
-        let n = length-take-le m js room in
-        rw (get_or-take m js x 0 (omega arith)) (l.right r t x (omega arith) p o);
-  };
-}
 
 -- ---- slots without one of the query's terms
 

@@ -1,28 +1,17 @@
 -- Columns of impacts: gone through from the first to the last, and summed term by term. Assumes nothing.
-use Prim.Native.Nat.{ℕ, ◌+◌, ◌-◌, ◌*◌, ◌≤◌, ◌<◌, max}
+use Prim.Native.Nat.{ℕ, ◌+◌, ◌*◌, ◌≤◌, ◌<◌, max}
 use native.Mathlib.Nat.{mul-le-mul}
 use native.Mathlib.Numerals.{add-one}
 use native.Mathlib.Omega.{arith}
 use mathlib.Core.Path.{◌≡◌}
 use mathlib.Core.Bool.{cond}
 use mathlib.Core.List.{List, [], ◌∷◌}
-use lib.ListN.{length, get_or, take, drop}
+use lib.ListN.{length, get_or, take}
 use lib.Seq.{take-suc}
 use lib.Dec.{leb}
 use borrow.Author.Tests.{lt-ltb, le-ltb}
-use Rattle.paper.specs.Layout.{slots}
-use Rattle.search.specs.Post.{column}
 use Rattle.search.specs.Cut.{cap, up_to, over, sum_at, read_at}
 use Rattle.search.proofs.SumLaws.{up_to_append, over_append}
-
--- ---- a column read: the part that is lent
-
-module _ (cols : List ℕ) (m p : ℕ) where
-  abbrev part : List ℕ
-  part = take (slots * p + m - slots * p) (drop (slots * p) cols)
-
-  pub part_is : part ≡ column cols m p
-  part_is = let e : slots * p + m - slots * p ≡ m = omega arith in rw e
 
 -- ---- one impact more
 

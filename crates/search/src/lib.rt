@@ -10,7 +10,7 @@ ghost use Rattle.paper.specs.Layout.{state_length, slots};
 ghost use Rattle.memory.specs.Words.{words};
 ghost use Rattle.window.specs.Rows.{row_width};
 ghost use Rattle.search.specs.Cut as cut;
-ghost use Rattle.search.specs.Post.{Fit, height_limit, Column, Columns, sum_by, read_by, EndsAt, ReadFor, WindowSearch};
+ghost use Rattle.search.specs.Post.{Fit, height_limit, Column, Columns, column, sum_by, read_by, EndsAt, ReadFor, WindowSearch};
 
 use candidates::Query;
 use paper::{State, layout};
@@ -21,8 +21,10 @@ const MOST_TERMS: u32 = paper::MOST_TERMS as u32;
 // No posting is as high: a weight has four bits.
 const HEIGHT_LIMIT: u32 = 16 * impact::Impact::TOP * MOST_TERMS;
 
-// Columns of impacts for all terms, with a place for each message of the window.
+// Columns of impacts for all terms, with a place for each message of the window: how many of a column's places are filled is said beside them.
 const COLUMNS: usize = paper::MOST_TERMS * layout::SLOTS;
+
+type AllColumns = [u16; COLUMNS];
 
 #[derive(Clone, Copy)]
 pub struct Outcome {
@@ -35,23 +37,19 @@ fn put_column(rows: &[u16], p: usize, column: &mut [u16])
     requires { (length rows.now ≡ row_width * slots) × (length column.old ≤ slots) × (p < most_terms) }
     ensures { Column rows.now (length column.old) p column.new }
 {
-    let mut i: usize = 0;
-    while i < column.len() {
-        column[i] = rows[candidates::ROW * i + 1 + p];
-        i += 1;
+    for (i, x) in column.iter_mut().enumerate() {
+        *x = rows[candidates::ROW * i + 1 + p];
     }
 }
 
 // The columns of the first m messages looked at in the first n terms.
-fn put_columns(rows: &[u16], m: usize, n: usize, columns: &mut [u16])
-    requires { (length rows.now ≡ row_width * slots) × (m ≤ slots) × (n ≤ most_terms) × (length columns.old ≡ most_terms * slots) }
+fn put_columns(rows: &[u16], m: usize, n: usize, columns: &mut AllColumns)
+    requires { (length rows.now ≡ row_width * slots) × (m ≤ slots) × (n ≤ most_terms) }
     ensures { Columns rows.now m n columns.new }
 {
-    let mut p: usize = 0;
-    while p < n {
+    for p in 0..n {
         let start = layout::SLOTS * p;
         put_column(rows, p, &mut columns[start..start + m]);
-        p += 1;
     }
 }
 
@@ -79,10 +77,8 @@ fn next_impact(column: &[u16], cap: u16) -> u16
     ensures { result ≡ cut.up_to cap column.now }
 {
     let mut next: u16 = 0;
-    let mut i: usize = 0;
-    while i < column.len() {
-        next = window::greater(next, capped(column[i], cap));
-        i += 1;
+    for x in column {
+        next = next.max(capped(*x, cap));
     }
     next
 }
@@ -93,60 +89,52 @@ fn count_over(column: &[u16], cap: u16) -> u32
     ensures { (result ≡ cut.over cap column.now) × (result ≤ slots) }
 {
     let mut count: u32 = 0;
-    let mut i: usize = 0;
-    while i < column.len() {
-        if cap < column[i] {
+    for x in column {
+        if cap < *x {
             count += 1;
         }
-        i += 1;
     }
     count
 }
 
-fn wide(x: u16) -> u32
-    ensures { (result ≡ x) × (result < 65536) }
+// The column of the term at place p: the impacts of the first m messages.
+fn column_of(columns: &AllColumns, m: usize, p: usize) -> &[u16]
+    requires { (m ≤ slots) × (p < most_terms) }
+    ensures { result.now ≡ column columns.now m p }
 {
-    x as u32
+    let start = layout::SLOTS * p;
+    &columns[start..start + m]
 }
 
 // The sum of weight × impact of the next postings once all above the cut are read.
-fn sum_at(columns: &[u16], m: usize, query: Query, at: u32) -> u32
-    requires { (length columns.now ≡ most_terms * slots) × (m ≤ slots) × Fit query × (at < height_limit) }
+fn sum_at(columns: &AllColumns, m: usize, query: Query, at: u32) -> u32
+    requires { (m ≤ slots) × Fit query × (at < height_limit) }
     ensures { result ≡ sum_by columns.now m query at }
 {
-    let n = query.n;
-    let weights = query.weights;
     let mut sum: u32 = 0;
-    let mut p: usize = 0;
-    while p < n {
-        let weight = weights[p];
-        let start = layout::SLOTS * p;
-        sum += weight * wide(next_impact(&columns[start..start + m], cap(at, p, weight)));
-        p += 1;
+    for p in 0..query.n {
+        let weight = query.weights[p];
+        let next = next_impact(column_of(columns, m, p), cap(at, p, weight));
+        sum += weight * u32::from(next);
     }
     sum
 }
 
 // How many postings are above the cut.
-fn read_at(columns: &[u16], m: usize, query: Query, at: u32) -> u32
-    requires { (length columns.now ≡ most_terms * slots) × (m ≤ slots) × Fit query × (at < height_limit) }
+fn read_at(columns: &AllColumns, m: usize, query: Query, at: u32) -> u32
+    requires { (m ≤ slots) × Fit query × (at < height_limit) }
     ensures { result ≡ read_by columns.now m query at }
 {
-    let n = query.n;
-    let weights = query.weights;
     let mut count: u32 = 0;
-    let mut p: usize = 0;
-    while p < n {
-        let start = layout::SLOTS * p;
-        count += count_over(&columns[start..start + m], cap(at, p, weights[p]));
-        p += 1;
+    for p in 0..query.n {
+        count += count_over(column_of(columns, m, p), cap(at, p, query.weights[p]));
     }
     count
 }
 
 // The highest cut at which the next postings sum to less than the score: the search ends there.
-fn end_cut(columns: &[u16], m: usize, query: Query, score: u32) -> u32
-    requires { (length columns.now ≡ most_terms * slots) × (m ≤ slots) × Fit query }
+fn end_cut(columns: &AllColumns, m: usize, query: Query, score: u32) -> u32
+    requires { (m ≤ slots) × Fit query }
     ensures { EndsAt columns.now m query score result }
 {
     let mut low: u32 = 0;
@@ -163,8 +151,8 @@ fn end_cut(columns: &[u16], m: usize, query: Query, score: u32) -> u32
 }
 
 // How many postings are read for this list: all of them where it isn't full.
-fn postings_read(columns: &[u16], m: usize, query: Query, list: Ranked) -> u32
-    requires { (length columns.now ≡ most_terms * slots) × (m ≤ slots) × Fit query × (list.count ≤ most_listed) }
+fn postings_read(columns: &AllColumns, m: usize, query: Query, list: Ranked) -> u32
+    requires { (m ≤ slots) × Fit query × (list.count ≤ most_listed) }
     ensures { ReadFor columns.now m query list result }
 {
     if list.count != query.k {

@@ -4,17 +4,17 @@ use mathlib.Core.Path.{refl}
 use Rattle.search.specs.Cut.{over}
 use Rattle.search.proofs.ColumnLaws.{over_hit, over_miss}
 use Rattle.search.proofs.count_over.Goals as goal
-use Rattle.search.proofs.count_over.Goals.{then-cap-column, else-cap-column}
+use Rattle.search.proofs.count_over.Goals.{then-cap-x, else-cap-x}
 
-pub loop-i-init : goal.loop-i-init
+pub loop-x-init : goal.loop-x-init
 unfolding over
-loop-i-init c = (omega arith, omega arith, refl)
+loop-x-init c = (omega arith, refl)
 
-pub loop-i-preserved : goal.loop-i-preserved
-loop-i-preserved c =
-    let l = c.loop-i in
+pub loop-x-preserved : goal.loop-x-preserved
+loop-x-preserved c =
+    let l = c.loop-x in
     let a = c.args in
-    elim c.if-cap-column.branch [
-      | then-cap-column w ↦ (omega arith, omega arith, rw w.count-is (over_hit a.column.now l.i a.cap (omega arith) l.invariant.2 (omega arith)))
-      | else-cap-column w ↦ (omega arith, omega arith, rw w.count-is (over_miss a.column.now l.i a.cap (omega arith) l.invariant.2 (omega arith)))
+    elim c.if-cap-x.branch [
+      | then-cap-x w ↦ (omega arith, rw w.count-is (over_hit a.column.now l.x-index a.cap (omega arith) l.invariant.1 (omega arith)))
+      | else-cap-x w ↦ (omega arith, rw w.count-is (over_miss a.column.now l.x-index a.cap (omega arith) l.invariant.1 (omega arith)))
     ]

@@ -1,12 +1,9 @@
--- `count_over`'s loops. Assumes nothing.
-use Prim.Native.Nat.{◌-◌, ◌≤◌}
+-- `count_over`'s loop. Assumes nothing.
+use Prim.Native.Nat.{◌≤◌}
 use mathlib.Core.Path.{◌≡◌}
-use lib.ListN.{length, take}
+use lib.ListN.{take}
 use Rattle.search.specs.Cut.{over}
 use Rattle.search.proofs.count_over.Given as goal
 
-abbrev pub invariant-loop-i : goal.invariant-loop-i
-invariant-loop-i l = (l.i ≤ length l.column) × (l.count ≤ l.i) × (l.count ≡ over l.cap (take l.i l.column))
-
-abbrev pub decreases-loop-i : goal.decreases-loop-i
-decreases-loop-i l = length l.column - l.i
+abbrev pub invariant-loop-x : goal.invariant-loop-x
+invariant-loop-x l = (l.count ≤ l.x-index) × (l.count ≡ over l.cap (take l.x-index l.column))

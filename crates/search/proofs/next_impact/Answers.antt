@@ -5,12 +5,12 @@ use Rattle.search.specs.Cut.{up_to}
 use Rattle.search.proofs.ColumnLaws.{up_to_turn}
 use Rattle.search.proofs.next_impact.Goals as goal
 
-pub loop-i-init : goal.loop-i-init
+pub loop-x-init : goal.loop-x-init
 unfolding up_to
-loop-i-init c = (omega arith, refl)
+loop-x-init c = refl
 
-pub loop-i-preserved : goal.loop-i-preserved
-loop-i-preserved c =
-    let l = c.loop-i in
+pub loop-x-preserved : goal.loop-x-preserved
+loop-x-preserved c =
+    let l = c.loop-x in
     let a = c.args in
-    (omega arith, up_to_turn a.column.now l.i a.cap (omega arith) l.invariant.1 c.capped.ensures c.greater-next.ensures)
+    up_to_turn a.column.now l.x-index a.cap (omega arith) l.invariant c.capped.ensures c.max-next.ensures
