@@ -43,7 +43,7 @@ use Rattle.candidates.specs.Rows.{Having, Rows, RankedRows, SiftedRows}
 use Rattle.candidates.proofs.MatchLaws.{slot_in, in_ring_lem, ring_in, ranking_stored, taken_live}
 use Rattle.candidates.proofs.RowLaws.{having_live, having_grows, having_exceeds}
 use Rattle.query.specs.Record.{thresholds, flags, keys, kept_of, Says, Holds}
-use Rattle.query.specs.Post.{InRange, Is, sum_of, Lifted, secure, same_from, StoredKept, Over, Shown, Ready, Exact}
+use Rattle.query.specs.Post.{InRange, Is, sum_of, Lifted, secure, StoredKept, Over, Shown, Ready, Exact}
 use Rattle.query.proofs.ChosenLaws.{messages_select, chosen, candidates_are}
 use Rattle.query.proofs.LiftLaws.{secure_safe}
 use Rattle.query.proofs.RecordLaws.{cells_same, says_same}

@@ -1,4 +1,5 @@
 -- `store` meets its contract. Assumes nothing.
+use native.Mathlib.Omega.{arith}
 use Rattle.query.proofs.StoreLaws.{stored_kept}
 use Rattle.query.proofs.store.Goals as goal
 
