@@ -172,20 +172,6 @@ module _ {w : List ℕ} {q o n : ℕ} {ms : List Message} {query : Rank.Query} {
             short = λ z. zeros;
           }
 
--- arrays found the same are
-same_eight : (n : ℕ) (xs ys : List ℕ) → same_from n xs ys ≡ true → (i : ℕ) → i < n → get_or xs i 0 ≡ get_or ys i 0
-unfolding same_from
-same_eight zero xs ys e i h = absurd (not-suc-le-zero h)
-same_eight (suc n) xs ys e i h =
-    let p = and_true (same_from n xs ys) (eqb (get_or xs n 0) (get_or ys n 0)) e in
-    ⊎_elim
-    (λ z. rw z (eqb-true (get_or xs n 0) (get_or ys n 0) p.1))
-    (λ l. same_eight n xs ys p.0 i l)
-    (eq-or-lt_of_le (le_of_suc-le-suc h))
-
-pub same_arrays : (xs ys : List ℕ) → length xs ≡ 8 → length ys ≡ 8 → same_from 8 xs ys ≡ true → xs ≡ ys
-same_arrays xs ys lx ly e = ext_get_or 0 xs ys (lx ∙ sym ly) (λ i h. same_eight 8 xs ys e i (omega arith))
-
 -- ---- what is stored at the end
 
 module _ {w : List ℕ} {q o n : ℕ} {fs : List ℕ} {r : Query} {hs hs' : List ℕ} {l : Ranked} (range : InRange r) (long : Sixteen l) (eight : length hs ≡ 8)
