@@ -361,11 +361,8 @@ fn without_gone(state: &State, moved: Move, went: u32, least: u32, list: Ranked)
     if went < least / rank::KEY_FACTOR {
         return rest;
     }
-    let mut j = moved.gone;
-    for _ in 0..moved.departed {
-        let serial = window::serial_in(state, j);
-        rest = rank::removed(rest, serial);
-        j = window::following(j);
+    for j in window::slots_from(moved.gone, moved.departed) {
+        rest = rank::removed(rest, window::serial_in(state, j));
     }
     if moved.cancelled < layout::SLOTS {
         return rank::removed(rest, moved.serial);
