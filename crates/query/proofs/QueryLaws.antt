@@ -15,7 +15,7 @@ use Rattle.paper.specs.Rank as Rank
 use Rattle.paper.specs.Sound.{Terms}
 use Rattle.paper.specs.Threshold.{term_at, weight_at}
 use Rattle.paper.specs.Write.{side_by_side}
-use Rattle.paper.specs.Layout.{record_at, size_in, pairs_in, thresholds_in}
+use Rattle.paper.specs.Layout.{record_at, pairs_in, thresholds_in}
 use Rattle.paper.proofs.Tests.{and_true}
 use Rattle.impact.proofs.CellLaws.{rising_side}
 use Rattle.rank.specs.Weights.{weight_limit}

@@ -8,9 +8,9 @@ use mathlib.Core.Bool.{Bool, true, false, ◌&&◌, ◌||◌, true≢false, fals
 use mathlib.Core.Logic.{◌⊎◌, inl, inr, ⊎_elim}
 use mathlib.Core.List.{List, [], ◌∷◌, map, map-map}
 use lib.ListN.{length, get_or, take, replicate, get_or-replicate, length-map, length-take, get_or-eq_default}
-use lib.Seq.{get_or-take, length-take-le, ext_get_or}
-use lib.Dec.{eqb, ltb}
-use borrow.Author.Tests.{eqb-true, ltb-true, ltb-false, lt-ltb}
+use lib.Seq.{get_or-take, length-take-le}
+use lib.Dec.{ltb}
+use borrow.Author.Tests.{ltb-true, ltb-false, lt-ltb}
 use Rattle.paper.specs.Frame.{Pair, most_listed}
 use Rattle.paper.specs.Impact.{top, score}
 use Rattle.paper.specs.Order.{In, entry_at}
@@ -23,7 +23,7 @@ use Rattle.paper.specs.Sound.{Messages, Terms}
 use Rattle.paper.specs.Threshold.{exceeds, exceeds_by, threshold_sum, last_score, Tight, Settled}
 use Rattle.paper.specs.Layout.{slots}
 use Rattle.paper.proofs.RankLaws.{ranking_right, ranking_length}
-use Rattle.paper.proofs.Tests.{and_true, by_bool}
+use Rattle.paper.proofs.Tests.{by_bool}
 use Rattle.paper.proofs.SortLaws.{select_all, select_in, in_select}
 use Rattle.paper.proofs.ThresholdLaws.{Safe, candidates_enough}
 use Rattle.wire.specs.Bits.{odd, bits}

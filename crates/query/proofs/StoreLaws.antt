@@ -1,19 +1,17 @@
 -- What is written into a record: what is kept of a query, and zeros. Assumes nothing.
-use Prim.Native.Nat.{ℕ, ◌+◌, ◌*◌, ◌≤◌, ◌<◌}
+use Prim.Native.Nat.{ℕ, ◌+◌, ◌≤◌, ◌<◌}
 use native.Mathlib.Omega.{arith}
 use mathlib.Core.Path.{◌≡◌, ap, ◌∙◌}
 use mathlib.Core.Logic.{inl}
 use mathlib.Core.List.{List}
-use lib.ListN.{length, get_or, take, drop, set, replicate, length-replicate, get_or-replicate}
+use lib.ListN.{length, take, drop, set, replicate, get_or-replicate}
 use lib.Seq.{get_or-take, get_or-drop, get_or-set_same}
-use borrow.Author.Rules.{rules}
 use Rattle.paper.specs.Frame.{numbers, most_listed}
 use Rattle.paper.specs.Layout.{state_length, record_at, record_words, listed_in, thresholds_in, serials_in, keys_in, flags_in}
 use Rattle.memory.specs.Words.{words, put_word}
 use Rattle.memory.specs.Keeps.{Keeps, Stored}
 use Rattle.memory.proofs.WordLaws.{words_length, put_word_lem}
 use Rattle.memory.proofs.KeepsLaws.{keeps_refl, keeps_trans, keeps_wider, keeps_set, keeps_at, keeps_part}
-use Rattle.memory.proofs.ArrayLaws.{Storing, storing_word}
 use Rattle.rank.specs.declared.Ranked.{Ranked}
 use Rattle.query.specs.Post.{StoredKept, Cleared}
 

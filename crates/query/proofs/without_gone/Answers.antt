@@ -1,6 +1,5 @@
 -- `without_gone` meets its contract. Assumes nothing.
 use native.Mathlib.Omega.{arith}
-use borrow.Author.Rules.{rules}
 use Rattle.query.proofs.PlaceLaws.{leaving_all, leaving_next, cancelled_leaves, none_cancelled}
 use Rattle.query.proofs.without_gone.Goals as goal
 
