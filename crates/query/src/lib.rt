@@ -124,7 +124,7 @@ pub fn load_list(state: &State, q: usize) -> Ranked
 // What is kept of a query is written.
 fn store(state: &mut State, q: usize, thresholds: [u32; 8], list: Ranked, flags: [u32; 9])
     requires in_bounds { q < numbers }
-    requires count_le_most_listed { list.count ≤ most_listed }
+    requires list_fits { list.count ≤ most_listed }
     ensures { StoredKept q thresholds list flags (words state.old) (words state.new) }
 {
     let at = layout::RECORDS + layout::RECORD * q;
@@ -141,7 +141,8 @@ fn store(state: &mut State, q: usize, thresholds: [u32; 8], list: Ranked, flags:
 // The thresholds raised where the list is full and they leave room below its last score, else none.
 fn raised(query: Query, thresholds: [u32; 8], list: Ranked) -> [u32; 8]
     requires in_range { InRange query }
-    requires count_le_most_listed { (list.count ≤ most_listed) × ((i : ℕ) → get_or thresholds i 0 ≤ top) }
+    requires list_fits { list.count ≤ most_listed }
+    requires in_scale { (i : ℕ) → get_or thresholds i 0 ≤ top }
     ensures { Lifted query thresholds list result }
 {
     let n = query.n;
@@ -167,9 +168,9 @@ fn finish(
     list: Ranked,
 )
     requires in_bounds { (q < numbers) × (length picked.now ≤ slots) × (length rows.now ≡ row_width * slots) }
-    requires by_index { (i : ℕ) → i < length picked.now → get_or picked.now i 0 < slots }
+    requires picked_in_ring { (i : ℕ) → i < length picked.now → get_or picked.now i 0 < slots }
     requires in_range { InRange query }
-    requires count_le_most_listed { list.count ≤ most_listed }
+    requires list_fits { list.count ≤ most_listed }
     ensures { Finished (words state.old) q picked.now rows.now query raised list (words state.new) }
 {
     let kept = candidates::sifted_rows(picked, rows, query, raised);
@@ -179,7 +180,8 @@ fn finish(
 // Whether no message that isn't among those ranked could be listed: a message that exceeds no threshold scores at most their sum.
 fn is_safe(query: Query, thresholds: [u32; 8], list: Ranked) -> bool
     requires in_range { InRange query }
-    requires count_le_most_listed { (list.count ≤ most_listed) × ((i : ℕ) → get_or thresholds i 0 ≤ top) }
+    requires list_fits { list.count ≤ most_listed }
+    requires in_scale { (i : ℕ) → get_or thresholds i 0 ≤ top }
     ensures { result ≡ secure query thresholds list }
 {
     let weights = query.weights;
@@ -196,9 +198,9 @@ fn is_safe(query: Query, thresholds: [u32; 8], list: Ranked) -> bool
 // The query is settled from the picked messages, each looked at once; not where a message that isn't picked could be listed.
 fn settled(state: &mut State, q: usize, picked: &[u16], query: Query, thresholds: [u32; 8]) -> bool
     requires in_bounds { (q < numbers) × (length picked.now ≤ slots) }
-    requires by_index { (i : ℕ) → i < length picked.now → get_or picked.now i 0 < slots }
+    requires picked_in_ring { (i : ℕ) → i < length picked.now → get_or picked.now i 0 < slots }
     requires in_range { InRange query }
-    requires by_index_2 { (i : ℕ) → get_or thresholds i 0 ≤ top }
+    requires in_scale { (i : ℕ) → get_or thresholds i 0 ≤ top }
     ensures { Attempted (words state.old) q picked.now query thresholds result (words state.new) }
 {
     let mut rows = [0u16; candidates::ROWS];
@@ -235,7 +237,7 @@ fn settle(
 )
     requires in_bounds { (q < numbers) × (first < slots) × (count < slots) }
     requires in_range { InRange query }
-    requires by_index { (i : ℕ) → get_or thresholds i 0 ≤ top }
+    requires in_scale { (i : ℕ) → get_or thresholds i 0 ≤ top }
     ensures { SettledFrom (words state.old) q first count flags query thresholds (words state.new) }
 {
     let mut picked = [0u16; layout::SLOTS];
@@ -411,7 +413,7 @@ fn sift(
 )
     requires in_bounds { (q < numbers) × (first < slots) × (count < slots) }
     requires in_range { InRange query }
-    requires count_le_most_listed { list.count ≤ most_listed }
+    requires list_fits { list.count ≤ most_listed }
     ensures { SiftedFrom (words state.old) q first count flags query raised list (words state.new) }
 {
     let mut picked = [0u16; layout::SLOTS];
@@ -435,7 +437,8 @@ fn retune(
 )
     requires in_bounds { (q < numbers) × (first < slots) × (count < slots) }
     requires in_range { InRange query }
-    requires count_le_most_listed { (list.count ≤ most_listed) × ((i : ℕ) → get_or thresholds i 0 ≤ top) }
+    requires list_fits { list.count ≤ most_listed }
+    requires in_scale { (i : ℕ) → get_or thresholds i 0 ≤ top }
     ensures { Retuned (words state.old) q first count flags query thresholds list (words state.new) }
 {
     let next = raised(query, thresholds, list);
@@ -449,7 +452,7 @@ fn retune(
 // The list changes in place. Where it was full and no longer is, a message that wasn't listed may have to be.
 fn change(state: &mut State, q: usize, moved: Move, touch: Touch, least: u32, flags: [u32; 9])
     requires in_bounds { (q < numbers) × (moved.gone < slots) × (moved.first < slots) × (moved.count < slots) }
-    requires came_lt_score_limit { touch.came < score_limit }
+    requires score_fits { touch.came < score_limit }
     ensures { Changed (words state.old) q moved touch least flags (words state.new) }
 {
     let first = moved.first;
@@ -470,7 +473,7 @@ fn change(state: &mut State, q: usize, moved: Move, touch: Touch, least: u32, fl
 // A query is updated where a frame reaches it; the tables have the impacts that come and the greatest that go, of all terms.
 pub fn update(state: &mut State, q: usize, moved: Move, coming: &[u16], going: &[u16]) -> bool
     requires in_bounds { (q < numbers) × (moved.gone < slots) × (moved.first < slots) × (moved.count < slots) }
-    requires coming_len { (length coming.now ≡ term_limit) × (length going.now ≡ term_limit) }
+    requires whole_tables { (length coming.now ≡ term_limit) × (length going.now ≡ term_limit) }
     ensures { Updated (words state.old) q moved coming.now going.now result (words state.new) }
 {
     let touch = touched(state, q, coming, going);
@@ -503,8 +506,8 @@ pub fn clear(state: &mut State, q: usize)
 
 // The words of a query's pairs, each a term with its weight; 0 past its n terms.
 fn packed(n: usize, terms: [u32; 8], weights: [u32; 8]) -> [u32; 8]
-    requires n_le_most_terms { n ≤ most_terms }
-    requires by_index { (i : ℕ) → i < n → (get_or terms i 0 < term_limit) × (get_or weights i 0 < weight_limit) }
+    requires within_terms { n ≤ most_terms }
+    requires pairs_fit { (i : ℕ) → i < n → (get_or terms i 0 < term_limit) × (get_or weights i 0 < weight_limit) }
     ensures { Packed (side_by_side n terms weights) result }
 {
     let mut pairs = [0u32; 8];
@@ -517,7 +520,7 @@ fn packed(n: usize, terms: [u32; 8], weights: [u32; 8]) -> [u32; 8]
 // A query is written: the length of its list, how many terms it has, and each with its weight.
 fn put_query(state: &mut State, q: usize, k: u32, n: usize, terms: [u32; 8], weights: [u32; 8])
     requires in_bounds { (q < numbers) × (n ≤ most_terms) }
-    requires by_index { (i : ℕ) → i < n → (get_or terms i 0 < term_limit) × (get_or weights i 0 < weight_limit) }
+    requires pairs_fit { (i : ℕ) → i < n → (get_or terms i 0 < term_limit) × (get_or weights i 0 < weight_limit) }
     ensures { PutQuery q (record { k = k; terms = side_by_side n terms weights }) (words state.old) (words state.new) }
 {
     let at = layout::RECORDS + layout::RECORD * q;
@@ -539,8 +542,8 @@ pub fn register(
     count: usize,
 )
     requires in_bounds { (q < numbers) × (first < slots) × (count < slots) }
-    requires le_k { (1 ≤ k) × (k ≤ most_listed) × (1 ≤ n) × (n ≤ most_terms) }
-    requires by_index { (i : ℕ) → i < n → (get_or terms i 0 < term_limit) × (get_or weights i 0 < weight_limit) }
+    requires in_range { (1 ≤ k) × (k ≤ most_listed) × (1 ≤ n) × (n ≤ most_terms) }
+    requires pairs_fit { (i : ℕ) → i < n → (get_or terms i 0 < term_limit) × (get_or weights i 0 < weight_limit) }
     ensures { Registered (words state.old) q first count (record { k = k; terms = side_by_side n terms weights }) (words state.new) }
 {
     put_query(state, q, k, n, terms, weights);
