@@ -7,9 +7,8 @@ use lib.ListN.{length, get_or}
 
 -- each of the first n elements of ys is what P allows for the one of xs
 pub record Filled (P : ℕ → ℕ → Type 0) (n : ℕ) (xs ys : List ℕ) : Type 0 where
-  pub bound : n ≤ 8
   pub wide : length ys ≡ 8
   pub each : (j : ℕ) → j < n → P (get_or xs j 0) (get_or ys j 0)
 
 pub filled_all : {P : ℕ → ℕ → Type 0} {n : ℕ} {xs ys zs : List ℕ} → 8 ≤ n → xs ≡ zs → Filled P n xs ys → Filled P 8 zs ys
-filled_all {P} {n} h e f = let l : n ≡ 8 = let b = f.bound in omega arith in rw (l, e) at f
+filled_all h e f = rw (← e) (record { wide = f.wide; each = λ j l. f.each j (omega arith) })

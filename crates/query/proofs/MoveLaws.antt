@@ -33,7 +33,7 @@ use Rattle.candidates.specs.Flags.{flag_of, in_ring}
 use Rattle.candidates.proofs.MatchLaws.{slot_in, in_ring_lem, ring_in, exceeds_live, reached_greatest, score_greatest, score_alone}
 use Rattle.query.specs.declared.Move.{Move}
 use Rattle.query.specs.declared.Touch.{Touch}
-use Rattle.query.specs.Record.{thresholds, flags, list, held_of, Held, Holds}
+use Rattle.query.specs.Record.{size_of, thresholds, flags, list, held_of, Held, Holds}
 use Rattle.query.specs.Touch.{found_above, found_sum, Touched}
 use Rattle.query.specs.Post.{LoadedThresholds, Over, Exact, arriving, leaving, WithoutOne, MovedFlags, Change, reaches, Told, Tables}
 use Rattle.query.proofs.ChosenLaws.{slots_reached, candidates_are, reached_append, unreached_slot}
@@ -315,17 +315,17 @@ module _ {w₀ w : List ℕ} {q : ℕ} {m : Move} {coming going : List ℕ} {tou
   old_given : Gives going ga
   old_given t h = tables.old.is t h ∙ sym (greatest_live w₀ (leaving m) t) ∙ ap (greatest t) change.gone
 
-  size_is : touched.size ≡ length qs
-  size_is = size_said terms held.says touched.clamped
+  size_is : size_of w q ≡ length qs
+  size_is = size_said terms held.says
 
-  above_is : (table : List ℕ) (ms : List Message) → Gives table ms → Messages ms → found_above w q table touched.size ≡ reached qs hs ms
+  above_is : (table : List ℕ) (ms : List Message) → Gives table ms → Messages ms → found_above w q table (size_of w q) ≡ reached qs hs ms
   above_is table ms given v =
       ap (found_above w q table) size_is
       ∙ above_found terms held.says table held.settled.one_each
       ∙ exceeds_agree (entry_of table) (λ t. greatest t (map stored ms)) qs hs (λ p i. given p.term (fit_in qs terms.terms.fit p i))
       ∙ reached_greatest qs hs ms v
 
-  sum_is : (table : List ℕ) (ms : List Message) → Gives table ms → found_sum w q table touched.size ≡ score_by (λ t. greatest t (map stored ms)) qs
+  sum_is : (table : List ℕ) (ms : List Message) → Gives table ms → found_sum w q table (size_of w q) ≡ score_by (λ t. greatest t (map stored ms)) qs
   sum_is table ms given =
       ap (found_sum w q table) size_is
       ∙ sum_found terms held.says table

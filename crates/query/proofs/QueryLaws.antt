@@ -1,5 +1,5 @@
 -- What is read of a record: its query and its thresholds. Assumes nothing.
-use Prim.Native.Nat.{ℕ, zero, suc, ◌+◌, ◌-◌, ◌*◌, ◌/◌, ◌%◌, ◌≤◌, ◌<◌}
+use Prim.Native.Nat.{ℕ, zero, suc, ◌+◌, ◌-◌, ◌*◌, ◌/◌, ◌%◌, ◌≤◌, ◌<◌, min, max}
 use native.Mathlib.Nat.{not-suc-le-zero}
 use native.Mathlib.Omega.{arith}
 use mathlib.Core.Path.{◌≡◌, refl, sym, ap, ◌∙◌}
@@ -15,15 +15,15 @@ use Rattle.paper.specs.Rank as Rank
 use Rattle.paper.specs.Sound.{Terms}
 use Rattle.paper.specs.Threshold.{term_at, weight_at}
 use Rattle.paper.specs.Write.{side_by_side}
-use Rattle.paper.specs.Layout.{record_at, size_in, pairs_in, thresholds_in}
+use Rattle.paper.specs.Layout.{record_at, pairs_in, thresholds_in}
 use Rattle.paper.proofs.Tests.{and_true}
 use Rattle.impact.proofs.CellLaws.{rising_side}
 use Rattle.rank.specs.Weights.{weight_limit}
 use Rattle.candidates.specs.declared.Query.{Query}
 use Rattle.candidates.specs.Post.{terms_of}
 use Rattle.candidates.proofs.TermLaws.{side_at}
-use Rattle.query.specs.Record.{Says}
-use Rattle.query.specs.Post.{Clamped, InRange, Is, LoadedQuery, LoadedThresholds}
+use Rattle.query.specs.Record.{size_of, Says}
+use Rattle.query.specs.Post.{InRange, Is, LoadedQuery, LoadedThresholds}
 use Rattle.query.proofs.FillLaws.{Filled}
 
 -- one word of a part of the memory
@@ -37,7 +37,7 @@ abbrev pub Term : ℕ → ℕ → Type 0
 Term pair t = t ≡ pair / weight_limit
 
 abbrev pub Weight : ℕ → ℕ → Type 0
-Weight pair u = Clamped 1 (weight_limit - 1) (pair % weight_limit) u
+Weight pair u = u ≡ max 1 (min (pair % weight_limit) (weight_limit - 1))
 
 pub weight_range : (qs : List Pair) → AllFit weight_width qs → positive qs ≡ true → (i : ℕ) → i < length qs
     → (1 ≤ weight_at qs i) × (weight_at qs i < weight_limit)
@@ -81,15 +81,15 @@ is_by {r} {query} v k n ht hu pairs = record {
 apart : {p t u : ℕ} → u < weight_limit → p ≡ t * weight_limit + u → (p / weight_limit ≡ t) × (p % weight_limit ≡ u)
 apart h e = (omega arith, omega arith)
 
-module _ (w : List ℕ) (q : ℕ) (r : Query) (k : Clamped 0 most_listed (get_or w (record_at q) 0) r.k) (n : Clamped 1 8 (get_or w (size_in q) 0) r.n)
+module _ (w : List ℕ) (q : ℕ) (r : Query) (k : r.k ≡ min (get_or w (record_at q) 0) most_listed) (n : r.n ≡ size_of w q)
     (ts : Filled Term 8 (take 8 (drop (pairs_in q) w)) r.terms) (us : Filled Weight 8 (take 8 (drop (pairs_in q) w)) r.weights) where
   in_range : InRange r
   in_range = record {
-    k_most = k.at_most;
-    n_least = n.at_least;
-    n_most = n.at_most;
-    weights_least = λ i h. (us.each i h).at_least;
-    weights_most = λ i h. let m = (us.each i h).at_most in omega arith;
+    k_most = omega arith;
+    n_least = omega arith;
+    n_most = omega arith;
+    weights_least = λ i h. omega (arith, us.each i h);
+    weights_most = λ i h. omega (arith, us.each i h);
   }
 
   module _ (query : Rank.Query) (v : Terms query) (says : Says w q query) where
@@ -99,15 +99,14 @@ module _ (w : List ℕ) (q : ℕ) (r : Query) (k : Clamped 0 most_listed (get_or
         let l : i < 8 = omega arith in
         let range = weight_range query.terms v.terms.fit v.terms.above_zero i h in
         let e = apart range.1 (part_at w (pairs_in q) i l ∙ says.pairs i l) in
-        (ts.each i l ∙ e.0, (us.each i l).is (omega arith) (omega arith) ∙ e.1)
+        (ts.each i l ∙ e.0, omega (arith, us.each i l))
 
     is_query : Is r query
     is_query =
         let least = v.terms.least_one in
         let most = v.terms.at_most in
-        let size = says.size in
-        let e : r.n ≡ length query.terms = n.is (omega arith) (omega arith) ∙ size in
-        is_by v (k.is (omega arith) (omega (arith, says.k, v.k_most)) ∙ says.k) e (omega (arith, ts.wide)) (omega (arith, us.wide))
+        let e : r.n ≡ length query.terms = omega (arith, says.size) in
+        is_by v (omega (arith, says.k, v.k_most)) e (omega (arith, ts.wide)) (omega (arith, us.wide))
         (rw e (side_is query.terms r.terms r.weights (omega (arith, ts.wide)) (omega (arith, us.wide)) pair_is))
 
   pub loaded_query : LoadedQuery w q r
@@ -116,7 +115,7 @@ module _ (w : List ℕ) (q : ℕ) (r : Query) (k : Clamped 0 most_listed (get_or
 -- ---- thresholds
 
 abbrev pub Threshold : ℕ → ℕ → Type 0
-Threshold = Clamped 0 top
+Threshold v h = h ≡ min v top
 
 pub loaded_thresholds : (w : List ℕ) (q : ℕ) {hs : List ℕ} → thresholds_in q + 8 ≤ length w → Filled Threshold 8 (take 8 (drop (thresholds_in q) w)) hs
     → LoadedThresholds w q hs
@@ -126,19 +125,19 @@ loaded_thresholds w q {hs} h f = record { in_scale = in_scale; is = is }
     in_scale i = go (ltb i 8) refl
       where
         go : (b : Bool) → ltb i 8 ≡ b → get_or hs i 0 ≤ top
-        go true e = (f.each i (ltb-true i 8 e)).at_most
+        go true e = omega (arith, f.each i (ltb-true i 8 e))
         go false e = rw (get_or-eq_default hs 0 {n = i} (omega (arith, ltb-false i 8 e, f.wide))) (omega arith)
 
     is : ((i : ℕ) → i < 8 → get_or w (thresholds_in q + i) 0 ≤ top) → hs ≡ take 8 (drop (thresholds_in q) w)
     is low =
         ext_get_or 0 hs (take 8 (drop (thresholds_in q) w)) (f.wide ∙ sym (simp (length-take, length-drop) (omega arith)))
-        (λ i l. let b : i < 8 = omega (arith, f.wide) in (f.each i b).is (omega arith) (rw (part_at w (thresholds_in q) i b) (low i b)))
+        (λ i l. let b : i < 8 = omega (arith, f.wide) in omega (arith, f.each i b, part_at w (thresholds_in q) i b, low i b))
 
 -- ---- what a record says, word by word
 
 module _ {w : List ℕ} {q : ℕ} {query : Rank.Query} (terms : Terms query) (says : Says w q query) where
-  pub size_said : {n : ℕ} → Clamped 1 8 (get_or w (size_in q) 0) n → n ≡ length query.terms
-  size_said c = c.is (omega (arith, says.size, terms.terms.least_one)) (omega (arith, says.size, terms.terms.at_most)) ∙ says.size
+  pub size_said : size_of w q ≡ length query.terms
+  size_said = omega (arith, says.size, terms.terms.least_one, terms.terms.at_most)
 
   pub term_said : (i : ℕ) → i < length query.terms → get_or w (pairs_in q + i) 0 / 16 % 1024 ≡ term_at query.terms i
   term_said i h =

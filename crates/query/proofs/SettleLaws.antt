@@ -8,9 +8,9 @@ use mathlib.Core.Bool.{Bool, true, false, ◌&&◌, ◌||◌, true≢false, fals
 use mathlib.Core.Logic.{◌⊎◌, inl, inr, ⊎_elim}
 use mathlib.Core.List.{List, [], ◌∷◌, map, map-map}
 use lib.ListN.{length, get_or, take, replicate, get_or-replicate, length-map, length-take, get_or-eq_default}
-use lib.Seq.{get_or-take, length-take-le, ext_get_or}
-use lib.Dec.{eqb, ltb}
-use borrow.Author.Tests.{eqb-true, ltb-true, ltb-false, lt-ltb}
+use lib.Seq.{get_or-take, length-take-le}
+use lib.Dec.{ltb}
+use borrow.Author.Tests.{ltb-true, ltb-false, lt-ltb}
 use Rattle.paper.specs.Frame.{Pair, most_listed}
 use Rattle.paper.specs.Impact.{top, score}
 use Rattle.paper.specs.Order.{In, entry_at}
@@ -23,7 +23,7 @@ use Rattle.paper.specs.Sound.{Messages, Terms}
 use Rattle.paper.specs.Threshold.{exceeds, exceeds_by, threshold_sum, last_score, Tight, Settled}
 use Rattle.paper.specs.Layout.{slots}
 use Rattle.paper.proofs.RankLaws.{ranking_right, ranking_length}
-use Rattle.paper.proofs.Tests.{and_true, by_bool}
+use Rattle.paper.proofs.Tests.{by_bool}
 use Rattle.paper.proofs.SortLaws.{select_all, select_in, in_select}
 use Rattle.paper.proofs.ThresholdLaws.{Safe, candidates_enough}
 use Rattle.wire.specs.Bits.{odd, bits}
@@ -43,7 +43,7 @@ use Rattle.candidates.specs.Rows.{Having, Rows, RankedRows, SiftedRows}
 use Rattle.candidates.proofs.MatchLaws.{slot_in, in_ring_lem, ring_in, ranking_stored, taken_live}
 use Rattle.candidates.proofs.RowLaws.{having_live, having_grows, having_exceeds}
 use Rattle.query.specs.Record.{thresholds, flags, keys, kept_of, Says, Holds}
-use Rattle.query.specs.Post.{InRange, Is, sum_of, Lifted, secure, same_from, StoredKept, Over, Shown, Ready, Exact}
+use Rattle.query.specs.Post.{InRange, Is, sum_of, Lifted, secure, StoredKept, Over, Shown, Ready, Exact}
 use Rattle.query.proofs.ChosenLaws.{messages_select, chosen, candidates_are}
 use Rattle.query.proofs.LiftLaws.{secure_safe}
 use Rattle.query.proofs.RecordLaws.{cells_same, says_same}
@@ -171,20 +171,6 @@ module _ {w : List ℕ} {q o n : ℕ} {ms : List Message} {query : Rank.Query} {
             full = λ e. absurd (omega arith);
             short = λ z. zeros;
           }
-
--- arrays found the same are
-same_eight : (n : ℕ) (xs ys : List ℕ) → same_from n xs ys ≡ true → (i : ℕ) → i < n → get_or xs i 0 ≡ get_or ys i 0
-unfolding same_from
-same_eight zero xs ys e i h = absurd (not-suc-le-zero h)
-same_eight (suc n) xs ys e i h =
-    let p = and_true (same_from n xs ys) (eqb (get_or xs n 0) (get_or ys n 0)) e in
-    ⊎_elim
-    (λ z. rw z (eqb-true (get_or xs n 0) (get_or ys n 0) p.1))
-    (λ l. same_eight n xs ys p.0 i l)
-    (eq-or-lt_of_le (le_of_suc-le-suc h))
-
-pub same_arrays : (xs ys : List ℕ) → length xs ≡ 8 → length ys ≡ 8 → same_from 8 xs ys ≡ true → xs ≡ ys
-same_arrays xs ys lx ly e = ext_get_or 0 xs ys (lx ∙ sym ly) (λ i h. same_eight 8 xs ys e i (omega arith))
 
 -- ---- what is stored at the end
 

@@ -1,19 +1,17 @@
 -- What is written into a record: what is kept of a query, and zeros. Assumes nothing.
-use Prim.Native.Nat.{ℕ, ◌+◌, ◌*◌, ◌≤◌, ◌<◌}
+use Prim.Native.Nat.{ℕ, ◌+◌, ◌≤◌, ◌<◌}
 use native.Mathlib.Omega.{arith}
 use mathlib.Core.Path.{◌≡◌, ap, ◌∙◌}
 use mathlib.Core.Logic.{inl}
 use mathlib.Core.List.{List}
-use lib.ListN.{length, get_or, take, drop, set, replicate, length-replicate, get_or-replicate}
+use lib.ListN.{length, take, drop, set, replicate, get_or-replicate}
 use lib.Seq.{get_or-take, get_or-drop, get_or-set_same}
-use borrow.Author.Rules.{rules}
 use Rattle.paper.specs.Frame.{numbers, most_listed}
 use Rattle.paper.specs.Layout.{state_length, record_at, record_words, listed_in, thresholds_in, serials_in, keys_in, flags_in}
 use Rattle.memory.specs.Words.{words, put_word}
 use Rattle.memory.specs.Keeps.{Keeps, Stored}
 use Rattle.memory.proofs.WordLaws.{words_length, put_word_lem}
 use Rattle.memory.proofs.KeepsLaws.{keeps_refl, keeps_trans, keeps_wider, keeps_set, keeps_at, keeps_part}
-use Rattle.memory.proofs.ArrayLaws.{Storing, storing_word}
 use Rattle.rank.specs.declared.Ranked.{Ranked}
 use Rattle.query.specs.Post.{StoredKept, Cleared}
 
@@ -51,24 +49,10 @@ module _ (q : ℕ) (list : Ranked) {hs fs : List ℕ} (s t : List ℕ) {w₂ w�
 
 -- ---- zeros
 
-unfoldable pub zeros : List ℕ
-zeros = replicate record_words 0
-
-pub zeros_length : length zeros ≡ record_words
-unfolding zeros
-zeros_length = length-replicate {A = ℕ} record_words 0
-
-zeros_at : (i : ℕ) → i < record_words → get_or zeros i 0 ≡ 0
-unfolding zeros
-zeros_at i h = get_or-replicate record_words i 0 0 h
-
--- one more
-pub zeros_more : {at i : ℕ} {s₀ s s' : List ℕ} → 4 * (at + record_words) ≤ length s₀ → i < record_words → s' ≡ put_word s (at + i) 0
-    → Storing words record_words at i zeros s₀ s → Storing words record_words at (i + 1) zeros s₀ s'
-zeros_more {at} {i} h k e p = let z = zeros_at i k in storing_word h k (rw z (search rules)) (rw z e) p
-
-pub cleared : {q : ℕ} {w w' : List ℕ} → Stored (record_at q) record_words zeros w w' → Cleared w q w'
+pub cleared : {q : ℕ} {w w' : List ℕ} → Stored (record_at q) record_words (replicate record_words 0) w w' → Cleared w q w'
 cleared {q} {w} {w'} p = record {
   keeps = p.keeps;
-  zero = λ i h. rw (← get_or-drop (record_at q) w' i 0, ← get_or-take record_words (drop (record_at q) w') i 0 h, p.reads) (zeros_at i h);
+  zero = λ i h.
+      rw (← get_or-drop (record_at q) w' i 0, ← get_or-take record_words (drop (record_at q) w') i 0 h, p.reads)
+      (get_or-replicate record_words i 0 0 h);
 }

@@ -6,6 +6,8 @@ use native.Mathlib.Omega.{arith}
 use mathlib.Core.Path.{◌≡◌, refl, sym, ap, ap₂, ◌∙◌}
 use mathlib.Core.Bool.{Bool, ◌||◌, or_assoc, or-false}
 use mathlib.Core.List.{List, [], ◌∷◌}
+use mir.Syntax.{w16}
+use mir.Val.{Fits}
 use lib.ListN.{length, get_or, take, drop}
 use lib.Seq.{take-length, get_or-take, get_or-drop}
 use lib.Dec.{ltb}
@@ -32,15 +34,16 @@ product_most pair small = mul-le-mul {n₂ = weight_limit} {m₂ = 65536} (omega
 
 module _ (w : List ℕ) (q : ℕ) (table : List ℕ) (i : ℕ) {pair v : ℕ} (read : pair ≡ get_or w (pairs_in q + i) 0)
     (given : v ≡ entry_of table (pair / 16 % 1024)) where
-  pub above_turn : {b more : Bool} {h : ℕ} → h ≡ get_or w (thresholds_in q + i) 0 → b ≡ found_above w q table i → more ≡ (b || ltb h v)
-      → more ≡ found_above w q table (i + 1)
+  pub above_turn : {b : Bool} {h : ℕ} → h ≡ get_or w (thresholds_in q + i) 0 → b ≡ found_above w q table i
+      → (b || ltb h v) ≡ found_above w q table (i + 1)
   unfolding found_above
-  above_turn e before turn = rw add-one (rw (before, e, given, read) at turn)
+  above_turn e before = rw (add-one, before, e, given, read) refl
 
-  pub sum_turn : {sum : ℕ} → (sum ≡ found_sum w q table i) × (sum ≤ i * most) → v < 65536
+  pub sum_turn : {sum : ℕ} → (sum ≡ found_sum w q table i) × (sum ≤ i * most) → ((t : ℕ) → Fits w16 (entry_of table t))
       → (sum + pair % 16 * v ≡ found_sum w q table (i + 1)) × (sum + pair % 16 * v ≤ (i + 1) * most)
   unfolding found_sum
-  sum_turn {sum} before small =
+  sum_turn {sum} before fits =
+      let small : v < 65536 = omega (arith, given, (fits (pair / 16 % 1024)).fits) in
       let p = product_most pair small in
       (rw add-one (ap₂ (λ (x y : ℕ). x + y) before.0 (rw (given, read) refl)), omega (arith, before.1))
 

@@ -1,5 +1,5 @@
 -- What each function over a record ensures. Assumes nothing.
-use Rattle.std.specs.Prelude.{ℕ, zero, suc, ◌+◌, ◌*◌, ◌/◌, ◌^◌, ◌≤◌, ◌<◌, ◌≡◌, Bool, true, false, cond, ◌&&◌, ◌||◌, List, [], ◌∷◌, ◌++◌, map, length, get_or, take, drop, eqb, leb, ltb}
+use Rattle.std.specs.Prelude.{ℕ, ◌+◌, ◌*◌, ◌/◌, ◌^◌, ◌≤◌, ◌<◌, ◌≡◌, Bool, true, false, cond, ◌&&◌, ◌||◌, List, [], ◌∷◌, ◌++◌, map, length, get_or, take, drop, eqb, leb, ltb}
 use Rattle.paper.specs.Frame.{most_terms, most_listed, serial_width, Pair}
 use Rattle.paper.specs.Impact.{top, score}
 use Rattle.paper.specs.Log.{has_serial}
@@ -28,12 +28,6 @@ use Rattle.query.specs.declared.Touch.{Touch}
 use Rattle.query.specs.Record.{thresholds, flags, keys, Says, Held, Holds}
 
 -- ---- reading
-
--- a value brought into a range: itself where it lies there
-pub record Clamped (least most v r : ℕ) : Type 0 where
-  pub at_least : least ≤ r
-  pub at_most : r ≤ most
-  pub is : least ≤ v → v ≤ most → r ≡ v
 
 -- ranges that hold whatever memory says
 pub record InRange (r : Query) : Type 0 where
@@ -82,11 +76,6 @@ pub record Lifted (r : Query) (hs : List ℕ) (list : Ranked) (hs' : List ℕ) :
 -- whether no message that scores at most the threshold sum could be listed
 unfoldable pub secure : Query → List ℕ → Ranked → Bool
 secure r hs list = eqb (sum_of r hs) 0 || (leb r.k list.count && ltb (sum_of r hs) (last_score_of (keyed_of list)))
-
--- whether the first n of two arrays are the same
-unfoldable pub same_from : ℕ → List ℕ → List ℕ → Bool
-same_from zero hs hs' = true
-same_from (suc n) hs hs' = same_from n hs hs' && eqb (get_or hs n 0) (get_or hs' n 0)
 
 -- ---- writing
 

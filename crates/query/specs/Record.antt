@@ -1,6 +1,6 @@
 -- The record of a query in the state memory, and when it holds what it should. `w` is the state memory in words, `q` the query's number.
 -- Assumes nothing.
-use Rattle.std.specs.Prelude.{ℕ, ◌+◌, ◌*◌, ◌≤◌, ◌<◌, ◌≡◌, ◌&&◌, List, map, length, get_or, take, drop}
+use Rattle.std.specs.Prelude.{ℕ, ◌+◌, ◌*◌, ◌≤◌, ◌<◌, ◌≡◌, ◌&&◌, max, min, List, map, length, get_or, take, drop}
 use Rattle.std.proofs.Math.Option.{Option, none, some}
 use Rattle.paper.specs.Frame.{most_terms, most_listed}
 use Rattle.paper.specs.Rank.{Query, Line, ranking}
@@ -15,6 +15,10 @@ use Rattle.candidates.specs.Match.{exceeds_cells}
 use Rattle.candidates.specs.Flags.{flag_of, in_ring}
 
 -- ---- its parts
+
+-- how many terms it has, within what it has room for whatever memory says
+abbrev pub size_of : List ℕ → ℕ → ℕ
+size_of w q = max 1 (min (get_or w (size_in q) 0) most_terms)
 
 unfoldable pub thresholds : List ℕ → ℕ → ℕ → List ℕ
 thresholds w q n = take n (drop (thresholds_in q) w)

@@ -1,12 +1,11 @@
 -- What a record's terms have in a table of impacts, read off its words. Assumes nothing.
 use Rattle.std.specs.Prelude.{ℕ, zero, suc, ◌+◌, ◌*◌, ◌/◌, ◌%◌, ◌<◌, ◌≡◌, Bool, false, ◌||◌, List, get_or, ltb}
-use Rattle.paper.specs.Frame.{most_terms}
-use Rattle.paper.specs.Layout.{size_in, pairs_in, thresholds_in}
+use Rattle.paper.specs.Layout.{pairs_in, thresholds_in}
 use Rattle.rank.specs.Listing.{score_limit}
 use Rattle.rank.specs.Weights.{weight_limit}
 use Rattle.window.specs.Table.{term_limit, entry_of}
 use Rattle.query.specs.declared.Touch.{Touch}
-use Rattle.query.specs.Post.{Clamped}
+use Rattle.query.specs.Record.{size_of}
 
 module _ (w : List ℕ) (q : ℕ) (table : List ℕ) where
   -- what the table gives the record's i-th term
@@ -25,10 +24,8 @@ module _ (w : List ℕ) (q : ℕ) (table : List ℕ) where
 
 -- all of that, by the table of what comes and by that of what goes
 pub record Touched (w : List ℕ) (q : ℕ) (coming going : List ℕ) (r : Touch) : Type 0 where
-  pub size : ℕ
-  pub clamped : Clamped 1 most_terms (get_or w (size_in q) 0) size
-  pub comes : r.comes ≡ found_above w q coming size
-  pub goes : r.goes ≡ found_above w q going size
-  pub came : r.came ≡ found_sum w q coming size
-  pub went : r.went ≡ found_sum w q going size
+  pub comes : r.comes ≡ found_above w q coming (size_of w q)
+  pub goes : r.goes ≡ found_above w q going (size_of w q)
+  pub came : r.came ≡ found_sum w q coming (size_of w q)
+  pub went : r.went ≡ found_sum w q going (size_of w q)
   pub small : r.came < score_limit

@@ -13,8 +13,9 @@ ghost use Rattle.rank.specs.Listing.{score_limit, line_with};
 ghost use Rattle.rank.specs.Weights.{weight_limit};
 ghost use Rattle.query.specs.Record.{keys, listed_at};
 ghost use Rattle.query.specs.Touch.{Touched};
-ghost use Rattle.query.specs.Post.{Clamped, InRange, LoadedQuery, LoadedThresholds, LoadedList, Lifted, secure, same_from, StoredKept, Finished, Attempted, SiftedFrom};
-ghost use Rattle.query.specs.Post.{Retuned, Refilled, SettledFrom, WithoutOne, MovedFlags, Least, KeptList, WithoutGone, WithNewest, Changed, Updated, Packed, PutQuery, Registered, Cleared};
+ghost use Rattle.query.specs.Post.{InRange, LoadedQuery, LoadedThresholds, LoadedList, Lifted, secure, StoredKept, Finished, Attempted, SiftedFrom};
+ghost use Rattle.query.specs.Post.{Retuned, Refilled, SettledFrom, WithoutOne, MovedFlags, Least, KeptList, WithoutGone, WithNewest, Changed};
+ghost use Rattle.query.specs.Post.{Updated, Packed, PutQuery, Registered, Cleared};
 
 use candidates::Query;
 use paper::{State, layout};
@@ -39,17 +40,6 @@ pub fn in_use(state: &State, q: usize) -> bool
     memory::get(state, layout::RECORDS + layout::RECORD * q) != 0
 }
 
-// A value brought into a range, whatever memory holds.
-fn clamped(v: u32, least: u32, most: u32) -> u32
-    requires { least ≤ most }
-    ensures { Clamped least most v result }
-{
-    if v < least {
-        return least;
-    }
-    if v < most { v } else { most }
-}
-
 // The query that the record holds.
 pub fn load_query(state: &State, q: usize) -> Query
     requires { q < numbers }
@@ -59,16 +49,14 @@ pub fn load_query(state: &State, q: usize) -> Query
     let pairs = memory::load::<8>(state, at + layout::PAIRS);
     let mut terms = [0u32; 8];
     let mut weights = [0u32; 8];
-    let mut i: usize = 0;
-    while i < paper::MOST_TERMS {
+    for i in 0..paper::MOST_TERMS {
         let pair = pairs[i];
         terms[i] = pair / WEIGHT_LIMIT;
-        weights[i] = clamped(pair % WEIGHT_LIMIT, 1, MOST_WEIGHT);
-        i += 1;
+        weights[i] = (pair % WEIGHT_LIMIT).clamp(1, MOST_WEIGHT);
     }
     Query {
-        k: clamped(memory::get(state, at), 0, MOST_LISTED) as usize,
-        n: clamped(memory::get(state, at + layout::SIZE), 1, MOST_TERMS) as usize,
+        k: memory::get(state, at).min(MOST_LISTED) as usize,
+        n: memory::get(state, at + layout::SIZE).clamp(1, MOST_TERMS) as usize,
         terms,
         weights,
     }
@@ -84,10 +72,8 @@ fn load_thresholds(state: &State, q: usize) -> [u32; 8]
         layout::RECORDS + layout::RECORD * q + layout::THRESHOLDS,
     );
     let mut thresholds = [0u32; 8];
-    let mut i: usize = 0;
-    while i < paper::MOST_TERMS {
-        thresholds[i] = clamped(words[i], 0, impact::Impact::TOP);
-        i += 1;
+    for i in 0..paper::MOST_TERMS {
+        thresholds[i] = words[i].min(impact::Impact::TOP);
     }
     thresholds
 }
@@ -98,11 +84,7 @@ pub fn listed(state: &State, q: usize) -> usize
     ensures { (result ≤ most_listed) × (result ≡ length (keys (words state.now) q)) }
 {
     let count = memory::get(state, layout::RECORDS + layout::RECORD * q + layout::LISTED);
-    if count < MOST_LISTED {
-        count as usize
-    } else {
-        MOST_LISTED as usize
-    }
+    count.min(MOST_LISTED) as usize
 }
 
 // An entry of a list, as a reading shows it.
@@ -142,7 +124,7 @@ pub fn load_list(state: &State, q: usize) -> Ranked
 // What is kept of a query is written.
 fn store(state: &mut State, q: usize, thresholds: [u32; 8], list: Ranked, flags: [u32; 9])
     requires in_bounds { q < numbers }
-    requires count_le_most_listed { list.count ≤ most_listed }
+    requires list_fits { list.count ≤ most_listed }
     ensures { StoredKept q thresholds list flags (words state.old) (words state.new) }
 {
     let at = layout::RECORDS + layout::RECORD * q;
@@ -159,7 +141,8 @@ fn store(state: &mut State, q: usize, thresholds: [u32; 8], list: Ranked, flags:
 // The thresholds raised where the list is full and they leave room below its last score, else none.
 fn raised(query: Query, thresholds: [u32; 8], list: Ranked) -> [u32; 8]
     requires in_range { InRange query }
-    requires count_le_most_listed { (list.count ≤ most_listed) × ((i : ℕ) → get_or thresholds i 0 ≤ top) }
+    requires list_fits { list.count ≤ most_listed }
+    requires in_scale { (i : ℕ) → get_or thresholds i 0 ≤ top }
     ensures { Lifted query thresholds list result }
 {
     let n = query.n;
@@ -185,9 +168,9 @@ fn finish(
     list: Ranked,
 )
     requires in_bounds { (q < numbers) × (length picked.now ≤ slots) × (length rows.now ≡ row_width * slots) }
-    requires by_index { (i : ℕ) → i < length picked.now → get_or picked.now i 0 < slots }
+    requires picked_in_ring { (i : ℕ) → i < length picked.now → get_or picked.now i 0 < slots }
     requires in_range { InRange query }
-    requires count_le_most_listed { list.count ≤ most_listed }
+    requires list_fits { list.count ≤ most_listed }
     ensures { Finished (words state.old) q picked.now rows.now query raised list (words state.new) }
 {
     let kept = candidates::sifted_rows(picked, rows, query, raised);
@@ -197,7 +180,8 @@ fn finish(
 // Whether no message that isn't among those ranked could be listed: a message that exceeds no threshold scores at most their sum.
 fn is_safe(query: Query, thresholds: [u32; 8], list: Ranked) -> bool
     requires in_range { InRange query }
-    requires count_le_most_listed { (list.count ≤ most_listed) × ((i : ℕ) → get_or thresholds i 0 ≤ top) }
+    requires list_fits { list.count ≤ most_listed }
+    requires in_scale { (i : ℕ) → get_or thresholds i 0 ≤ top }
     ensures { result ≡ secure query thresholds list }
 {
     let weights = query.weights;
@@ -214,9 +198,9 @@ fn is_safe(query: Query, thresholds: [u32; 8], list: Ranked) -> bool
 // The query is settled from the picked messages, each looked at once; not where a message that isn't picked could be listed.
 fn settled(state: &mut State, q: usize, picked: &[u16], query: Query, thresholds: [u32; 8]) -> bool
     requires in_bounds { (q < numbers) × (length picked.now ≤ slots) }
-    requires by_index { (i : ℕ) → i < length picked.now → get_or picked.now i 0 < slots }
+    requires picked_in_ring { (i : ℕ) → i < length picked.now → get_or picked.now i 0 < slots }
     requires in_range { InRange query }
-    requires by_index_2 { (i : ℕ) → get_or thresholds i 0 ≤ top }
+    requires in_scale { (i : ℕ) → get_or thresholds i 0 ≤ top }
     ensures { Attempted (words state.old) q picked.now query thresholds result (words state.new) }
 {
     let mut rows = [0u16; candidates::ROWS];
@@ -253,7 +237,7 @@ fn settle(
 )
     requires in_bounds { (q < numbers) × (first < slots) × (count < slots) }
     requires in_range { InRange query }
-    requires by_index { (i : ℕ) → get_or thresholds i 0 ≤ top }
+    requires in_scale { (i : ℕ) → get_or thresholds i 0 ≤ top }
     ensures { SettledFrom (words state.old) q first count flags query thresholds (words state.new) }
 {
     let mut picked = [0u16; layout::SLOTS];
@@ -286,42 +270,28 @@ pub struct Touch {
     pub went: u32,
 }
 
-fn wide(x: u16) -> u32
-    ensures { (result ≡ x) × (result < 65536) }
-{
-    x as u32
-}
-
-fn both(a: bool, b: bool) -> bool
-    ensures { result ≡ (a && b) }
-{
-    if a { b } else { false }
-}
-
 // One look at each of the query's terms, in the tables of the impacts that come and of the greatest that go.
 fn touched(state: &State, q: usize, coming: &[u16], going: &[u16]) -> Touch
     requires { (q < numbers) × (length coming.now ≡ term_limit) × (length going.now ≡ term_limit) }
     ensures { Touched (words state.now) q coming.now going.now result }
 {
     let at = layout::RECORDS + layout::RECORD * q;
-    let n = clamped(memory::get(state, at + layout::SIZE), 1, MOST_TERMS) as usize;
+    let n = memory::get(state, at + layout::SIZE).clamp(1, MOST_TERMS) as usize;
     let mut comes = false;
     let mut goes = false;
     let mut came: u32 = 0;
     let mut went: u32 = 0;
-    let mut i: usize = 0;
-    while i < n {
+    for i in 0..n {
         let pair = memory::get(state, at + layout::PAIRS + i);
         let threshold = memory::get(state, at + layout::THRESHOLDS + i);
         let weight = pair % WEIGHT_LIMIT;
         let term = (pair / WEIGHT_LIMIT % TERMS) as usize;
-        let new = wide(coming[term]);
-        let old = wide(going[term]);
-        comes = window::either(comes, threshold < new);
-        goes = window::either(goes, threshold < old);
+        let new = u32::from(coming[term]);
+        let old = u32::from(going[term]);
+        comes |= threshold < new;
+        goes |= threshold < old;
         came += weight * new;
         went += weight * old;
-        i += 1;
     }
     Touch {
         comes,
@@ -393,13 +363,8 @@ fn without_gone(state: &State, moved: Move, went: u32, least: u32, list: Ranked)
     if went < least / rank::KEY_FACTOR {
         return rest;
     }
-    let mut j = moved.gone;
-    let mut left = moved.departed;
-    while 0 < left {
-        let serial = window::serial_in(state, j);
-        rest = rank::removed(rest, serial);
-        j = window::following(j);
-        left -= 1;
+    for j in window::slots_from(moved.gone, moved.departed) {
+        rest = rank::removed(rest, window::serial_in(state, j));
     }
     if moved.cancelled < layout::SLOTS {
         return rank::removed(rest, moved.serial);
@@ -435,18 +400,6 @@ fn with_newest(
     rank::inserted(list, k, serial, key)
 }
 
-fn same(a: [u32; 8], b: [u32; 8]) -> bool
-    ensures { result ≡ same_from 8 a b }
-{
-    let mut is = true;
-    let mut i: usize = 0;
-    while i < 8 {
-        is = both(is, a[i] == b[i]);
-        i += 1;
-    }
-    is
-}
-
 // The thresholds are raised to these beside a list that is right; the candidates are looked at, those that the flags say.
 fn sift(
     state: &mut State,
@@ -460,7 +413,7 @@ fn sift(
 )
     requires in_bounds { (q < numbers) × (first < slots) × (count < slots) }
     requires in_range { InRange query }
-    requires count_le_most_listed { list.count ≤ most_listed }
+    requires list_fits { list.count ≤ most_listed }
     ensures { SiftedFrom (words state.old) q first count flags query raised list (words state.new) }
 {
     let mut picked = [0u16; layout::SLOTS];
@@ -484,11 +437,12 @@ fn retune(
 )
     requires in_bounds { (q < numbers) × (first < slots) × (count < slots) }
     requires in_range { InRange query }
-    requires count_le_most_listed { (list.count ≤ most_listed) × ((i : ℕ) → get_or thresholds i 0 ≤ top) }
+    requires list_fits { list.count ≤ most_listed }
+    requires in_scale { (i : ℕ) → get_or thresholds i 0 ≤ top }
     ensures { Retuned (words state.old) q first count flags query thresholds list (words state.new) }
 {
     let next = raised(query, thresholds, list);
-    if same(next, thresholds) {
+    if next == thresholds {
         store(state, q, thresholds, list, flags);
     } else {
         sift(state, q, first, count, flags, query, next, list);
@@ -498,7 +452,7 @@ fn retune(
 // The list changes in place. Where it was full and no longer is, a message that wasn't listed may have to be.
 fn change(state: &mut State, q: usize, moved: Move, touch: Touch, least: u32, flags: [u32; 9])
     requires in_bounds { (q < numbers) × (moved.gone < slots) × (moved.first < slots) × (moved.count < slots) }
-    requires came_lt_score_limit { touch.came < score_limit }
+    requires score_fits { touch.came < score_limit }
     ensures { Changed (words state.old) q moved touch least flags (words state.new) }
 {
     let first = moved.first;
@@ -509,7 +463,7 @@ fn change(state: &mut State, q: usize, moved: Move, touch: Touch, least: u32, fl
     let k = query.k;
     let rest = without_gone(state, moved, touch.went, least, list);
     let next = with_newest(state, moved.newest, touch.came, k, least, rest);
-    if both(list.count == k, next.count != k) {
+    if (list.count == k) & (next.count != k) {
         settle(state, q, first, count, flags, query, thresholds);
     } else {
         retune(state, q, first, count, flags, query, thresholds, next);
@@ -519,18 +473,18 @@ fn change(state: &mut State, q: usize, moved: Move, touch: Touch, least: u32, fl
 // A query is updated where a frame reaches it; the tables have the impacts that come and the greatest that go, of all terms.
 pub fn update(state: &mut State, q: usize, moved: Move, coming: &[u16], going: &[u16]) -> bool
     requires in_bounds { (q < numbers) × (moved.gone < slots) × (moved.first < slots) × (moved.count < slots) }
-    requires coming_len { (length coming.now ≡ term_limit) × (length going.now ≡ term_limit) }
+    requires whole_tables { (length coming.now ≡ term_limit) × (length going.now ≡ term_limit) }
     ensures { Updated (words state.old) q moved coming.now going.now result (words state.new) }
 {
     let touch = touched(state, q, coming, going);
-    if !window::either(touch.comes, touch.goes) {
+    if !(touch.comes | touch.goes) {
         return false;
     }
     let flags = moved_flags(state, q, moved, touch.comes);
     let bound = least(state, q);
     // by the score alone: a message of the last entry's score may change the list whatever its urgency
     let score = bound / rank::KEY_FACTOR;
-    if window::either(score <= touch.came, score <= touch.went) {
+    if (score <= touch.came) | (score <= touch.went) {
         change(state, q, moved, touch, bound, flags);
     } else {
         keep_list(state, q, flags);
@@ -543,25 +497,22 @@ pub fn clear(state: &mut State, q: usize)
     requires { q < numbers }
     ensures { Cleared (words state.old) q (words state.new) }
 {
-    let at = layout::RECORDS + layout::RECORD * q;
-    let mut i: usize = 0;
-    while i < layout::RECORD {
-        memory::put(state, at + i, 0);
-        i += 1;
-    }
+    memory::store(
+        state,
+        layout::RECORDS + layout::RECORD * q,
+        [0u32; layout::RECORD],
+    );
 }
 
 // The words of a query's pairs, each a term with its weight; 0 past its n terms.
 fn packed(n: usize, terms: [u32; 8], weights: [u32; 8]) -> [u32; 8]
-    requires n_le_most_terms { n ≤ most_terms }
-    requires by_index { (i : ℕ) → i < n → (get_or terms i 0 < term_limit) × (get_or weights i 0 < weight_limit) }
+    requires within_terms { n ≤ most_terms }
+    requires pairs_fit { (i : ℕ) → i < n → (get_or terms i 0 < term_limit) × (get_or weights i 0 < weight_limit) }
     ensures { Packed (side_by_side n terms weights) result }
 {
     let mut pairs = [0u32; 8];
-    let mut i: usize = 0;
-    while i < n {
+    for i in 0..n {
         pairs[i] = terms[i] * WEIGHT_LIMIT + weights[i];
-        i += 1;
     }
     pairs
 }
@@ -569,7 +520,7 @@ fn packed(n: usize, terms: [u32; 8], weights: [u32; 8]) -> [u32; 8]
 // A query is written: the length of its list, how many terms it has, and each with its weight.
 fn put_query(state: &mut State, q: usize, k: u32, n: usize, terms: [u32; 8], weights: [u32; 8])
     requires in_bounds { (q < numbers) × (n ≤ most_terms) }
-    requires by_index { (i : ℕ) → i < n → (get_or terms i 0 < term_limit) × (get_or weights i 0 < weight_limit) }
+    requires pairs_fit { (i : ℕ) → i < n → (get_or terms i 0 < term_limit) × (get_or weights i 0 < weight_limit) }
     ensures { PutQuery q (record { k = k; terms = side_by_side n terms weights }) (words state.old) (words state.new) }
 {
     let at = layout::RECORDS + layout::RECORD * q;
@@ -591,8 +542,8 @@ pub fn register(
     count: usize,
 )
     requires in_bounds { (q < numbers) × (first < slots) × (count < slots) }
-    requires le_k { (1 ≤ k) × (k ≤ most_listed) × (1 ≤ n) × (n ≤ most_terms) }
-    requires by_index { (i : ℕ) → i < n → (get_or terms i 0 < term_limit) × (get_or weights i 0 < weight_limit) }
+    requires in_range { (1 ≤ k) × (k ≤ most_listed) × (1 ≤ n) × (n ≤ most_terms) }
+    requires pairs_fit { (i : ℕ) → i < n → (get_or terms i 0 < term_limit) × (get_or weights i 0 < weight_limit) }
     ensures { Registered (words state.old) q first count (record { k = k; terms = side_by_side n terms weights }) (words state.new) }
 {
     put_query(state, q, k, n, terms, weights);

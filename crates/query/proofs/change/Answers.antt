@@ -10,21 +10,21 @@ use Rattle.query.proofs.ChangeLaws.{changed_settled, changed_in_place}
 use Rattle.query.proofs.change.Goals as goal
 
 -- whether a full list has lost its last place
-kept_full : {had has k : ℕ} {b : Bool} → b ≡ (eqb had k && not (eqb has k)) → b ≡ false → had ≡ k → has ≡ k
-kept_full {had} {has} {k} e f full = go (eqb has k) refl
+kept_full : {had has k : ℕ} → (eqb had k && not (eqb has k)) ≡ false → had ≡ k → has ≡ k
+kept_full {had} {has} {k} f full = go (eqb has k) refl
   where
     go : (t : Bool) → eqb has k ≡ t → has ≡ k
     go true u = eqb-true has k u
-    go false u = absurd (false≢true (sym f ∙ e ∙ ap₂ (λ (x y : Bool). x && not y) (eq-eqb had k full) u))
+    go false u = absurd (false≢true (sym f ∙ ap₂ (λ (x y : Bool). x && not y) (eq-eqb had k full) u))
 
-pub returns-then-both : goal.returns-then-both
-returns-then-both c = changed_settled c.load_query-query.ensures c.load_thresholds-thresholds.ensures c.settle.ensures
+pub returns-then-list-k : goal.returns-then-list-k
+returns-then-list-k c = changed_settled c.load_query-query.ensures c.load_thresholds-thresholds.ensures c.settle.ensures
 
-pub returns-else-both : goal.returns-else-both
-returns-else-both c =
+pub returns-else-list-k : goal.returns-else-list-k
+returns-else-list-k c =
     let sixteen : Sixteen c.load_list-list.result =
     record { most = c.load_list-list.ensures.count_most; serials = search (rules, length_unmapped); keys = search (rules, length_unmapped) } in
     let sixteen_next : Sixteen c.with_newest-next.result =
     record { most = c.with_newest-next.ensures.within; serials = search (rules, length_unmapped); keys = search (rules, length_unmapped) } in
     changed_in_place c.load_query-query.ensures c.load_thresholds-thresholds.ensures c.load_list-list.ensures sixteen sixteen_next
-    c.without_gone-rest.ensures c.with_newest-next.ensures (kept_full c.both.ensures c.if-both.false) c.retune.ensures
+    c.without_gone-rest.ensures c.with_newest-next.ensures (kept_full c.if-list-k.false) c.retune.ensures

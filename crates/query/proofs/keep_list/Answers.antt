@@ -7,5 +7,5 @@ use Rattle.query.proofs.keep_list.Goals as goal
 pub returns : goal.returns
 unfolding flags
 returns c =
-    let t = c.store9.ensures in
+    let t = c.store.ensures in
     record { keeps = keeps_wider (omega arith) (omega arith) t.keeps; flags_are = t.reads }

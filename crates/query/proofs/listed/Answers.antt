@@ -5,14 +5,8 @@ use Rattle.memory.proofs.WordLaws.{words_length}
 use Rattle.query.proofs.PlaceLaws.{keys_length}
 use Rattle.query.proofs.listed.Goals as goal
 
-pub returns-then-count-lt-MOST_LISTED : goal.returns-then-count-lt-MOST_LISTED
-returns-then-count-lt-MOST_LISTED c =
-    let a = c.args in
-    let entries = keys_length (words a.state.now) a.q (omega (arith, words_length a.state.now)) (omega arith) in
-    (omega arith, omega (arith, c.get-count.ensures))
-
-pub returns-else-count-lt-MOST_LISTED : goal.returns-else-count-lt-MOST_LISTED
-returns-else-count-lt-MOST_LISTED c =
+pub returns : goal.returns
+returns c =
     let a = c.args in
     let entries = keys_length (words a.state.now) a.q (omega (arith, words_length a.state.now)) (omega arith) in
     (omega arith, omega (arith, c.get-count.ensures))

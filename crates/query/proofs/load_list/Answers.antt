@@ -12,6 +12,6 @@ returns c =
     record {
       count_most = omega arith;
       count_is = λ h. omega arith;
-      serials = c.load16-serials.ensures;
-      keys = c.load16-keys.ensures;
+      serials = c.load-serials.ensures;
+      keys = c.load-keys.ensures;
     }

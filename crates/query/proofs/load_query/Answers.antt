@@ -8,6 +8,6 @@ use Rattle.query.proofs.load_query.Goals as goal
 pub returns : goal.returns
 returns c =
     let a = c.args in
-    let e = c.load8-pairs.ensures in
-    loaded_query (words a.state.now) a.q _ (rw (← c.get.ensures) c.clamped-2.ensures)
-    (rw (← c.get-2.ensures) c.clamped-3.ensures) (filled_all (omega arith) e c.loop-i.invariant.0) (filled_all (omega arith) e c.loop-i.invariant.1)
+    let e = c.load-pairs.ensures in
+    loaded_query (words a.state.now) a.q _ (rw (← c.get.ensures) c.min.ensures) (rw (← c.get-2.ensures) c.clamp-2.ensures)
+    (filled_all (omega arith) e c.loop-i.invariant.0) (filled_all (omega arith) e c.loop-i.invariant.1)

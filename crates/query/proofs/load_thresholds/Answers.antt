@@ -10,4 +10,4 @@ pub returns : goal.returns
 returns c =
     let a = c.args in
     let l = words_length a.state.now in
-    loaded_thresholds (words a.state.now) a.q (omega arith) (filled_all (omega arith) c.load8-words.ensures c.loop-i.invariant)
+    loaded_thresholds (words a.state.now) a.q (omega arith) (filled_all (omega arith) c.load-words.ensures c.loop-i.invariant)

@@ -1,11 +1,7 @@
 -- `load_thresholds`'s loops. Assumes nothing.
-use Prim.Native.Nat.{◌-◌}
 use Rattle.query.proofs.FillLaws.{Filled}
 use Rattle.query.proofs.QueryLaws.{Threshold}
 use Rattle.query.proofs.load_thresholds.Given as goal
 
 abbrev pub invariant-loop-i : goal.invariant-loop-i
 invariant-loop-i l = Filled Threshold l.i l.words l.thresholds
-
-abbrev pub decreases-loop-i : goal.decreases-loop-i
-decreases-loop-i l = 8 - l.i

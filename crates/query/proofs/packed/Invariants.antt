@@ -1,10 +1,6 @@
 -- `packed`'s loops. Assumes nothing.
-use Prim.Native.Nat.{◌-◌}
 use Rattle.query.proofs.RegisterLaws.{Packing}
 use Rattle.query.proofs.packed.Given as goal
 
 abbrev pub invariant-loop-i : goal.invariant-loop-i
 invariant-loop-i l = Packing l.n l.terms l.weights l.pairs l.i
-
-abbrev pub decreases-loop-i : goal.decreases-loop-i
-decreases-loop-i l = l.n - l.i

@@ -6,6 +6,5 @@ use Rattle.query.proofs.put_query.Goals as goal
 pub returns : goal.returns
 returns c =
     let a = c.args in
-    let pre = c.requires.state_len in
-    query_put _ _ a.q a.k a.n pre.0 pre.1 (omega arith) pre.2 c.put.ensures c.put-2.ensures
-    a.terms a.weights (omega arith) (omega arith) c.packed-pairs.ensures c.store8.ensures
+    query_put _ _ a.q a.k a.n (omega arith) (omega arith) (omega arith) (omega arith) c.put.ensures c.put-2.ensures
+    a.terms a.weights (omega arith) (omega arith) c.packed-pairs.ensures c.store.ensures

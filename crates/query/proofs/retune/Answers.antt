@@ -2,19 +2,19 @@
 use mathlib.Core.Path.{◌≡◌, sym, subst, ◌∙◌}
 use native.Mathlib.Omega.{arith}
 use lib.ListN.{length}
+use Rattle.std.specs.Cmp.Lexicographic.{same_text}
 use borrow.Author.Rules.{rules, length_unmapped}
 use Rattle.query.specs.Post.{Lifted}
-use Rattle.query.proofs.SettleLaws.{Sixteen, same_arrays, finished}
+use Rattle.query.proofs.SettleLaws.{Sixteen, finished}
 use Rattle.query.proofs.retune.Goals as goal
 
-pub returns-then-same : goal.returns-then-same
-returns-then-same c =
+pub returns-then-eq : goal.returns-then-eq
+returns-then-eq c =
     let sixteen : Sixteen c.args.list =
     record { most = omega arith; serials = search (rules, length_unmapped); keys = search (rules, length_unmapped) } in
     let eight : length c.args.thresholds ≡ 8 = search (rules, length_unmapped) in
-    let eight_next : length c.raised-next.result ≡ 8 = search (rules, length_unmapped) in
     let a = c.args in
-    let e : c.raised-next.result ≡ a.thresholds = same_arrays c.raised-next.result a.thresholds eight_next eight (sym c.same.ensures ∙ c.if-same.true) in
+    let e : c.raised-next.result ≡ a.thresholds = same_text c.raised-next.result a.thresholds (sym c.if-eq.true ∙ c.eq.ensures) in
     record {
       keeps = c.store.ensures.keeps;
       right = λ ms query ready exact.
@@ -22,8 +22,8 @@ returns-then-same c =
           c.store.ensures;
     }
 
-pub returns-else-same : goal.returns-else-same
-returns-else-same c =
+pub returns-else-eq : goal.returns-else-eq
+returns-else-eq c =
     let eight : length c.args.thresholds ≡ 8 = search (rules, length_unmapped) in
     let f = c.sift.ensures in
     record { keeps = f.keeps; right = λ ms query ready exact. f.right c.args.thresholds ms query eight c.raised-next.ensures ready }

@@ -8,19 +8,18 @@ use Rattle.query.proofs.touched.Goals as goal
 
 pub loop-i-init : goal.loop-i-init
 unfolding found_above found_sum
-loop-i-init c = (omega arith, refl, refl, (refl, omega arith), (refl, omega arith))
+loop-i-init c = (refl, refl, (refl, omega arith), (refl, omega arith))
 
 pub loop-i-preserved : goal.loop-i-preserved
 loop-i-preserved c =
     let a = c.args in
     let w = words a.state.now in
     let i = c.loop-i.i in
-    let new = c.wide-new.ensures in
-    let old = c.wide-old.ensures in
+    let new = c.from-new.ensures in
+    let old = c.from-old.ensures in
     let h = c.get-threshold.ensures in (
-      omega arith,
-      above_turn w a.q a.coming.now i c.get-pair.ensures new.0 h c.loop-i.invariant.1 c.either-comes.ensures,
-      above_turn w a.q a.going.now i c.get-pair.ensures old.0 h c.loop-i.invariant.2 c.either-goes.ensures,
-      sum_turn w a.q a.coming.now i c.get-pair.ensures new.0 c.loop-i.invariant.3 new.1,
-      sum_turn w a.q a.going.now i c.get-pair.ensures old.0 c.loop-i.invariant.4 old.1,
+      above_turn w a.q a.coming.now i c.get-pair.ensures new h c.loop-i.invariant.0,
+      above_turn w a.q a.going.now i c.get-pair.ensures old h c.loop-i.invariant.1,
+      sum_turn w a.q a.coming.now i c.get-pair.ensures new c.loop-i.invariant.2 c.type_inv.coming,
+      sum_turn w a.q a.going.now i c.get-pair.ensures old c.loop-i.invariant.3 c.type_inv.going,
     )

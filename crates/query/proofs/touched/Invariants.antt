@@ -1,5 +1,5 @@
 -- `touched`'s loops. Assumes nothing.
-use Prim.Native.Nat.{◌-◌, ◌*◌, ◌≤◌}
+use Prim.Native.Nat.{◌*◌, ◌≤◌}
 use mathlib.Core.Path.{◌≡◌}
 use Rattle.memory.specs.Words.{words}
 use Rattle.query.specs.Touch.{found_sum, found_above}
@@ -8,11 +8,7 @@ use Rattle.query.proofs.touched.Given as goal
 
 -- what the first i terms have
 abbrev pub invariant-loop-i : goal.invariant-loop-i
-invariant-loop-i l = (l.i ≤ l.n)
-    × (l.comes ≡ found_above (words l.state) l.q l.coming l.i)
+invariant-loop-i l = (l.comes ≡ found_above (words l.state) l.q l.coming l.i)
     × (l.goes ≡ found_above (words l.state) l.q l.going l.i)
     × ((l.came ≡ found_sum (words l.state) l.q l.coming l.i) × (l.came ≤ l.i * most))
     × ((l.went ≡ found_sum (words l.state) l.q l.going l.i) × (l.went ≤ l.i * most))
-
-abbrev pub decreases-loop-i : goal.decreases-loop-i
-decreases-loop-i l = l.n - l.i

@@ -1,13 +1,8 @@
--- `without_gone`'s loops. Assumes nothing.
-use Prim.Native.Nat.{◌<◌}
-use Rattle.paper.specs.Layout.{slots}
+-- `without_gone`'s loop. Assumes nothing.
 use Rattle.memory.specs.Words.{words}
 use Rattle.query.proofs.PlaceLaws.{Leaving}
 use Rattle.query.proofs.without_gone.Given as goal
 
--- those from slot j on are left
-abbrev pub invariant-loop-left : goal.invariant-loop-left
-invariant-loop-left l = (l.j < slots) × Leaving (words l.state) l.moved.gone l.moved.departed l.initial.rest l.j l.left l.rest
-
-abbrev pub decreases-loop-left : goal.decreases-loop-left
-decreases-loop-left l = l.left
+-- those that the iterator has yet to give are left
+abbrev pub invariant-loop-j : goal.invariant-loop-j
+invariant-loop-j l = Leaving (words l.state) l.moved.gone l.moved.departed l.initial.rest l.j-iterator.at l.j-iterator.left l.rest
