@@ -62,7 +62,7 @@ fitting (w ∷ ws) (v ∷ vs) = ltb v (2 ^ w) && fitting ws vs
 -- is written
 pub record ValuesPost (x : Fields) (values : List ℕ) : Type 0 where
   pub grades : grades_known (row_of x.kind).head values ≡ grades_known (row_of x.kind).head (map (value_of x) (row_of x.kind).head)
-  pub fit : fitting (map width (row_of x.kind).head) (take (length (row_of x.kind).head) values) ≡ head_within (row_of x.kind).head x
+  pub fit : fitting (map width (row_of x.kind).head) values ≡ head_within (row_of x.kind).head x
   pub are : head_within (row_of x.kind).head x ≡ true → take (length (row_of x.kind).head) values ≡ map (value_of x) (row_of x.kind).head
 
 -- 5 or 6, or 0, of the pairs that are handed over

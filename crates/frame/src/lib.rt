@@ -406,7 +406,7 @@ fn pairs_taken(amount: usize, pairs: usize) -> usize
 // Whether each value has no more bits than its field.
 fn fit(widths: &[usize], values: [u32; 5]) -> bool
     requires { (length widths.now ≤ 5) × Narrow widths.now }
-    ensures { result ≡ fitting widths.now (take (length widths.now) values) }
+    ensures { result ≡ fitting widths.now values }
 {
     for i in 0..widths.len() {
         if 1u64 << widths[i] <= values[i] as u64 {
