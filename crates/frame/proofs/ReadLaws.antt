@@ -42,10 +42,10 @@ refusal_pos Memory z = absurd (omega arith)
 refusal_pos NotInForce z = absurd (omega arith)
 refusal_pos Urgency z = absurd (omega arith)
 
--- a refusal that `?` passes on keeps its number
-pub passed_on : {A : Type 0} (r : Result A Refusal) (e : Refusal) → IsErrAnd r (λ x. x ≡ e) → verdict r ≡ number_of e
+-- a refusal that `?` passes on stays what it is
+pub passed_on : {A : Type 0} (r : Result A Refusal) (e : Refusal) → IsErrAnd r (λ x. x ≡ e) → r ≡ Err e
 passed_on (Ok x) e h = absurd h
-passed_on (Err x) e h = ap number_of h
+passed_on (Err x) e h = ap Err h
 
 -- where nothing of 3 and 4 applies the length is right
 pub fit_length : (s : List ℕ) (b : ℕ) → 0 ≡ fit_number s b → length s ≡ bytes_for b

@@ -14,7 +14,7 @@ pub returns-in_err-before : goal.returns-in_err-before
 unfolding judge_next
 returns-in_err-before c =
     let e = c.in_err-before.field-0.0 in
-    rw (c.if-not-sound.false, c.in_err-before.was, ne_eqb (number_of e) 0 (refusal_pos e)) (passed_on _ e c.from_residual.ensures.1)
+    rw (passed_on _ e c.from_residual.ensures.1, c.if-not-sound.false, c.in_err-before.was, ne_eqb (number_of e) 0 (refusal_pos e))
 
 pub returns-then-term-least : goal.returns-then-term-least
 unfolding judge_next
