@@ -10,7 +10,8 @@ use lib.ListN.{length}
 use lib.Dec.{eqb, ltb}
 use borrow.Author.Tests.{eqb-true}
 use Rattle.wire.specs.Field.{field, total}
-use Rattle.paper.specs.Frame.{Pair, Shape, row_of, widths, values_at, pairs_by, grades_known, known, frame_of, shape_of_kind, shape, pairs_at, kind_width, most_pairs}
+use Rattle.paper.specs.Frame.{Pair, Frame, Shape, row_of, widths, values_at, pairs_by, grades_known, known, frame_of, shape_of_kind, shape, pairs_at}
+use Rattle.paper.specs.Frame.{kind_width, most_pairs}
 use Rattle.paper.specs.Frame.Frame.{message, tick, register, unregister, cancel}
 use Rattle.paper.specs.Frame.Shape.{refused, accepted}
 use Rattle.paper.specs.Write.{side_by_side, pairs_in}
@@ -99,7 +100,8 @@ module _ (s : List ℕ) where
         → AskedQuery (asked s) (record { k = k; n = m; terms = p.terms; weights = p.amounts })
     asked_register t n k m e =
         let ps : List Pair = side_by_side m p.terms p.amounts in
-        let same : accepted (register t n k ps) ≡ accepted post.frame = sym (rw e at read_told s p post) ∙ post.is in
+        let told_as : accepted (told p.what p.terms p.amounts) ≡ accepted post.frame = read_told s p post ∙ post.is in
+        let same : accepted (register t n k ps) ≡ accepted post.frame = rw e at told_as in
         let pairs : pairs_in post.frame ≡ ps = in_frame _ _ (sym same) in
         record {
           query = record { k = k; terms = ps };

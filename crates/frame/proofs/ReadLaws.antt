@@ -5,8 +5,8 @@ use mathlib.Core.Path.{◌≡◌, refl, sym, ap, ◌∙◌, subst}
 use mathlib.Core.Bool.{Bool, true, false, cond}
 use mathlib.Core.List.{List, [], map}
 use lib.ListN.{length, get_or, length-map}
-use lib.Dec.{eqb}
-use borrow.Author.Tests.{ne_eqb, eqb-true, lt-ltb, le-ltb}
+use lib.Dec.{eqb, lit<}
+use borrow.Author.Tests.{ne_eqb, eqb-true, eqb-false, lt-ltb, le-ltb}
 use Rattle.std.specs.Prelude.{Result, Ok, Err, IsErrAnd}
 use Rattle.wire.specs.Field.{field, total, scan}
 use Rattle.paper.specs.Frame.{Pair, Frame, Shape, Row as TableRow, kind_width, no_row, row_of, width, widths, values_at, pairs_by, grades_known, frame_of}
@@ -141,7 +141,7 @@ pairs_framed s vs at =
     (λ k none h. let z : 0 < length no_row.head = subst (λ (row : TableRow). 0 < length row.head) none h in absurd (omega arith))
 
 module _ (s : List ℕ) (k : ℕ) where
-  pub unknown : length (row_of k).head ≡ 0 → shape_of_kind k s ≡ refused 2
+  unknown : length (row_of k).head ≡ 0 → shape_of_kind k s ≡ refused 2
   unfolding shape_of_kind
   unknown h = rw (le-ltb 0 (length (row_of k).head) (omega arith))
 
@@ -152,6 +152,13 @@ module _ (s : List ℕ) (k : ℕ) where
   by_row h = rw (lt-ltb 0 (length (row_of k).head) h)
 
 -- ---- by the code's row
+
+pub not_empty : (ws : List ℕ) → false ≡ eqb (length ws) 0 → 0 < length ws
+not_empty ws e = let n = eqb-false (length ws) 0 (sym e) in omega arith
+
+pub unknown_row : (s : List ℕ) (k : ℕ) (r : Row) → RowPost (row_of k) r → true ≡ eqb (length r.widths.now) 0 → shape_of_kind k s ≡ refused 2
+unknown_row s k r row e =
+    unknown s k (omega (arith, eqb-true (length r.widths.now) 0 (sym e), ap length row.widths, length-map (row_of k).head width))
 
 module _ (s : List ℕ) (k : ℕ) (r : Row) (row : RowPost (row_of k) r) (has : 0 < length r.widths.now) where
   head_has : 0 < length (row_of k).head
@@ -165,77 +172,91 @@ module _ (s : List ℕ) (k : ℕ) (r : Row) (row : RowPost (row_of k) r) (has : 
       by_row s k head_has
       ∙ read_short s (widths table) table.amount (pairs_by table vs) (grades_known table.head vs) (frame_of k vs) (λ e. omega (arith, row.bits))
 
-  module _ (values : List ℕ) (m : ℕ) (read : values ≡ padded 5 (scan s kind_width r.widths.now))
-      (said : m ≡ cond (eqb r.amount 0) 0 (get_or values (length r.widths.now - 1) 0 + 1)) where
-    pub read_as : values ≡ padded 5 (values_at s (row_of k))
-    read_as = read ∙ rw row.widths
+-- what the reader knows once it has counted the pairs
+pub record Headed (s : List ℕ) (k : ℕ) (r : Row) (values : List ℕ) (m : ℕ) : Type 0 where
+  pub row : RowPost (row_of k) r
+  pub has : 0 < length r.widths.now
+  pub read : values ≡ padded 5 (scan s kind_width r.widths.now)
+  pub said : m ≡ cond (eqb r.amount 0) 0 (get_or values (length r.widths.now - 1) 0 + 1)
 
-    pairs_said : m ≡ pairs_by (row_of k) (values_at s (row_of k))
-    pairs_said =
-        let places = (small s k).places in
-        let l = head_has in
-        rw (said, row.amount, read_as, row.widths, length-map (row_of k).head width, get_d_padded 5 (values_at s (row_of k)) (length (row_of k).head - 1) (omega arith))
+module _ {s : List ℕ} {k : ℕ} {r : Row} {values : List ℕ} {m : ℕ} (head : Headed s k r values m) where
+  abbrev table : TableRow
+  table = row_of k
 
-    -- the pairs end within the arrays
-    pub few : (m ≤ most_pairs) × (r.amount ≤ 8) × (r.bits + m * (10 + r.amount) ≤ 1024)
-    few =
-        let b = small s k in
-        let n : m ≤ most_pairs = rw pairs_said b.few in
-        let w : r.amount ≤ 8 = rw row.amount b.light in
-        (n, w, omega (arith, b.short, row.bits, pairs_light m r.amount n w))
+  abbrev said_values : List ℕ
+  said_values = values_at s table
 
-    grades_said : grades_known (row_of k).head values ≡ grades_known (row_of k).head (values_at s (row_of k))
-    grades_said = rw read_as (grades_padded (row_of k).head 5 (values_at s (row_of k)) (small s k).places)
+  read_as : values ≡ padded 5 said_values
+  read_as = head.read ∙ rw head.row.widths
 
-    module _ (known : Bool) (graded : known ≡ grades_known (row_of k).head values) where
-      checked_as : (p : Result PairList Refusal) → CheckedPost s r.bits r.amount m known p
-          → let table = row_of k in let vs = values_at s table in
-          CheckedPost s (total (widths table)) table.amount (pairs_by table vs) (grades_known table.head vs) p
-      checked_as p post = rw (row.bits, row.amount, pairs_said, graded ∙ grades_said) at post
+  pairs_said : m ≡ pairs_by table said_values
+  pairs_said =
+      let places = (small s k).places in
+      let l = head_has s k r head.row head.has in
+      rw (head.said, head.row.amount, read_as, head.row.widths, length-map table.head width, get_d_padded 5 said_values (length table.head - 1) (omega arith))
 
-      pub kind_refused : (e : Refusal) → CheckedPost s r.bits r.amount m known (Err e) → shape_of_kind k s ≡ refused (number_of e)
-      kind_refused e post =
-          let table = row_of k in
-          let vs = values_at s table in
-          by_row s k head_has
-          ∙ read_refused s (widths table) table.amount (pairs_by table vs) (grades_known table.head vs) (frame_of k vs) e (checked_as (Err e) post)
+  -- the pairs end within the arrays
+  pub few : (m ≤ most_pairs) × (r.amount ≤ 8) × (r.bits + m * (10 + r.amount) ≤ 1024)
+  few =
+      let b = small s k in
+      let n : m ≤ most_pairs = rw pairs_said b.few in
+      let w : r.amount ≤ 8 = rw head.row.amount b.light in
+      (n, w, omega (arith, b.short, head.row.bits, pairs_light m r.amount n w))
 
-      module _ (p : PairList) (post : CheckedPost s r.bits r.amount m known (Ok p)) where
-        abbrev found : List Pair
-        found = pairs_at s (total (widths (row_of k))) (row_of k).amount (pairs_by (row_of k) (values_at s (row_of k)))
+  pub third : get_or values 2 0 < 16
+  third = rw (read_as, get_d_padded 5 said_values 2 (lit< tt)) (small s k).third
 
-        is_known : grades_known (row_of k).head values ≡ true
-        is_known =
-            let table = row_of k in
-            let vs = values_at s table in
-            grades_said ∙ grade_known_lem s (widths table) table.amount (pairs_by table vs) (grades_known table.head vs) (sym (checked_as (Ok p) post).0)
+  grades_said : grades_known table.head values ≡ grades_known table.head said_values
+  grades_said = rw read_as (grades_padded table.head 5 said_values (small s k).places)
 
-        count : m ≡ length found
-        count = pairs_said ∙ sym (length_pairs s (total (widths (row_of k))) (row_of k).amount (pairs_by (row_of k) (values_at s (row_of k))))
+  module _ {known : Bool} (graded : known ≡ grades_known table.head values) where
+    checked_as : (p : Result PairList Refusal) → CheckedPost s r.bits r.amount m known p
+        → CheckedPost s (total (widths table)) table.amount (pairs_by table said_values) (grades_known table.head said_values) p
+    checked_as p post = rw (head.row.bits, head.row.amount, pairs_said, graded ∙ grades_said) at post
 
-        shape_as : shape_of_kind k s ≡ frame_of k values found
-        shape_as =
-            let table = row_of k in
-            let vs = values_at s table in
-            by_row s k head_has
-            ∙ read_made s (widths table) table.amount (pairs_by table vs) (grades_known table.head vs) (frame_of k vs) p (checked_as (Ok p) post)
-            ∙ sym (rw read_as (frame_padded k vs found))
+    pub kind_refused : (e : Refusal) → CheckedPost s r.bits r.amount m known (Err e) → shape_of_kind k s ≡ refused (number_of e)
+    kind_refused e post =
+        by_row s k (head_has s k r head.row head.has)
+        ∙ read_refused s (widths table) table.amount (pairs_by table said_values) (grades_known table.head said_values) (frame_of k said_values) e
+        (checked_as (Err e) post)
 
-        pub kind_unframed : (e : Refusal) → FramedPost k values m (Err e) → shape_of_kind k s ≡ refused (number_of e)
-        kind_unframed e framed = shape_as ∙ framed found is_known count
+    module _ (p : PairList) (post : CheckedPost s r.bits r.amount m known (Ok p)) where
+      abbrev found : List Pair
+      found = pairs_at s (total (widths table)) table.amount (pairs_by table said_values)
 
-        pub kind_framed : (what : Answer) → FramedPost k values m (Ok what)
-            → ReadFrame (shape_of_kind k s) (record { what = what; terms = p.terms; amounts = p.amounts })
-        kind_framed what framed =
-            let made = framed found is_known count in
-            let same : pairs_in made.0 ≡ found =
-            ap pairs_read {x = accepted made.0} {y = frame_of k (values_at s (row_of k)) found} (sym made.1 ∙ rw read_as (frame_padded k (values_at s (row_of k)) found))
-            ∙ pairs_framed s (values_at s (row_of k)) (total (widths (row_of k))) k head_has in
-            let arrays = (checked_as (Ok p) post).1.1 in
-            record {
-              frame = made.0;
-              is = shape_as ∙ made.1;
-              what = made.2;
-              terms = arrays.terms ∙ ap term_array (sym same);
-              amounts = arrays.amounts ∙ ap amount_array (sym same);
-            }
+      is_known : grades_known table.head values ≡ true
+      is_known =
+          grades_said
+          ∙ grade_known_lem s (widths table) table.amount (pairs_by table said_values) (grades_known table.head said_values) (sym (checked_as (Ok p) post).0)
+
+      count : m ≡ length found
+      count = pairs_said ∙ sym (length_pairs s (total (widths table)) table.amount (pairs_by table said_values))
+
+      same_frame : frame_of k values found ≡ frame_of k said_values found
+      same_frame = rw read_as (frame_padded k said_values found)
+
+      shape_as : shape_of_kind k s ≡ frame_of k values found
+      shape_as =
+          by_row s k (head_has s k r head.row head.has)
+          ∙ read_made s (widths table) table.amount (pairs_by table said_values) (grades_known table.head said_values) (frame_of k said_values) p
+          (checked_as (Ok p) post)
+          ∙ sym same_frame
+
+      pub kind_unframed : (e : Refusal) → FramedPost k values m (Err e) → shape_of_kind k s ≡ refused (number_of e)
+      kind_unframed e framed = shape_as ∙ framed found is_known count
+
+      pub kind_framed : (what : Answer) → FramedPost k values m (Ok what)
+          → ReadFrame (shape_of_kind k s) (record { what = what; terms = p.terms; amounts = p.amounts })
+      kind_framed what framed =
+          let made = framed found is_known count in
+          let same : pairs_in made.0 ≡ found =
+          ap pairs_read {x = accepted made.0} {y = frame_of k said_values found} (sym made.1 ∙ same_frame)
+          ∙ pairs_framed s said_values (total (widths table)) k (head_has s k r head.row head.has) in
+          let arrays = (checked_as (Ok p) post).1.1 in
+          record {
+            frame = made.0;
+            is = shape_as ∙ made.1;
+            what = made.2;
+            terms = arrays.terms ∙ ap term_array (sym same);
+            amounts = arrays.amounts ∙ ap amount_array (sym same);
+          }

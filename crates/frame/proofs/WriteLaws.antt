@@ -9,7 +9,7 @@ use mathlib.Core.List.{List, [], ◌∷◌, ◌++◌, map, append_assoc, append-
 use lib.ListN.{length, take, drop, get_or, length-append, length-map}
 use lib.Dec.{eqb, leb}
 use Rattle.std.specs.Prelude.{Ok, Err}
-use borrow.Author.Tests.{leb-true, lt-ltb, le-ltb, le-leb, lt-leb, ne_eqb}
+use borrow.Author.Tests.{eqb-true, leb-true, lt-ltb, le-ltb, le-leb, lt-leb, ne_eqb}
 use Rattle.wire.specs.Bits.{bits, unpack, pack, Bytes}
 use Rattle.wire.specs.Field.{placed, spell, total}
 use Rattle.wire.proofs.BitLaws.{length_bits}
@@ -20,7 +20,7 @@ use Rattle.paper.specs.Frame.Shape.{refused, accepted}
 use Rattle.paper.specs.Write.{side_by_side, all_within, head_within, value_of, pairs_taken, pairs_within, pairs_of, from_kind, from_fields}
 use Rattle.paper.specs.Refusal.{number_of}
 use Rattle.paper.specs.declared.refusal.Refusal.{Refusal}
-use Rattle.paper.specs.declared.refusal.Refusal.TheVariants.{Value, Memory, Urgency}
+use Rattle.paper.specs.declared.refusal.Refusal.TheVariants.{Kind, Value, Memory, Urgency}
 use Rattle.paper.proofs.Tests.{and_true}
 use Rattle.frame.specs.declared.Row.{Row}
 use Rattle.frame.specs.Read.{Narrow, RowPost, pairs_number}
@@ -244,61 +244,85 @@ module _ {x : Fields} {r : Row} {values : List ℕ} (given : Given x r values) w
   fit_is : (b : Bool) → fitting r.widths.now values ≡ b → head_within (row_of x.kind).head x ≡ b
   fit_is b f = sym given.post.fit ∙ rw (← given.row.widths) f
 
-  module _ (g : grades_known (row_of x.kind).head values ≡ true) where
-    graded : grades_known (row_of x.kind).head (map (value_of x) (row_of x.kind).head) ≡ true
-    graded = sym given.post.grades ∙ g
+  graded : grades_known (row_of x.kind).head values ≡ true → grades_known (row_of x.kind).head (map (value_of x) (row_of x.kind).head) ≡ true
+  graded g = sym given.post.grades ∙ g
 
-    pub fit_failed : (s : List ℕ) → fitting r.widths.now values ≡ false → WritePost (from_fields x) s s (in_numbers (Err Value))
-    fit_failed s f = rw (head_refused x has_row graded (fit_is false f)) (refused_post s Value)
+  pub fit_failed : (s : List ℕ) → grades_known (row_of x.kind).head values ≡ true → fitting r.widths.now values ≡ false
+      → WritePost (from_fields x) s s (in_numbers (Err Value))
+  fit_failed s g f = rw (head_refused x has_row (graded g) (fit_is false f)) (refused_post s Value)
 
-    module _ (f : fitting r.widths.now values ≡ true) (m : ℕ) (said : m ≡ cond (eqb r.amount 0) 0 x.pairs) where
-      taken : m ≡ pairs_taken (row_of x.kind) x
-      taken = said ∙ rw given.row.amount
+-- and once it has judged them, and counted the pairs
+pub record Counted (x : Fields) (r : Row) (values : List ℕ) (m : ℕ) : Type 0 where
+  pub given : Given x r values
+  pub grades : grades_known (row_of x.kind).head values ≡ true
+  pub fits : fitting r.widths.now values ≡ true
+  pub said : m ≡ cond (eqb r.amount 0) 0 x.pairs
 
-      -- the frame is small
-      pub few : (m ≤ most_pairs) × (r.amount ≤ 8) × (r.bits ≤ 63) × (m * (term_width + r.amount) ≤ 576)
-      few =
-          let b = small x.terms x.kind in
-          let n : m ≤ most_pairs = rw taken (taken_most x x.kind (fit_is true f)) in
-          let w : r.amount ≤ 8 = rw given.row.amount b.light in
-          (n, w, omega (arith, b.short, given.row.bits), pairs_light m r.amount n w)
+module _ {x : Fields} {r : Row} {values : List ℕ} {m : ℕ} (counted : Counted x r values m) where
+  abbrev known : 0 < length (row_of x.kind).head
+  known = has_row counted.given
 
-      verdict_is : (n : ℕ) → n ≡ pairs_verdict r.amount m x.terms x.amounts → n ≡ verdict x has_row graded (fit_is true f)
-      verdict_is n e = e ∙ rw (given.row.amount, taken)
+  abbrev grades : grades_known (row_of x.kind).head (map (value_of x) (row_of x.kind).head) ≡ true
+  grades = graded counted.given counted.grades
 
-      pub pairs_failed : (s : List ℕ) (e : Refusal) → number_of e ≡ pairs_verdict r.amount m x.terms x.amounts
-          → WritePost (from_fields x) s s (in_numbers (Err e))
-      pairs_failed s e n =
-          let v = verdict_is (number_of e) n in
-          rw (pairs_refused x has_row graded (fit_is true f) (λ z. refusal_pos e (v ∙ z)), ← v) (refused_post s e)
+  abbrev within : head_within (row_of x.kind).head x ≡ true
+  within = fit_is counted.given true counted.fits
 
-      module _ (s : List ℕ) (z : 0 ≡ pairs_verdict r.amount m x.terms x.amounts) where
-        pub lent : (m ≤ length x.terms) × (m ≤ length x.amounts)
-        lent = verdict_within r.amount m x.terms x.amounts (sym z)
+  taken : m ≡ pairs_taken (row_of x.kind) x
+  taken = counted.said ∙ rw counted.given.row.amount
 
-        none : verdict x has_row graded (fit_is true f) ≡ 0
-        none = sym (verdict_is 0 z)
+  -- the frame is small
+  pub few : (m ≤ most_pairs) × (r.amount ≤ 8) × (r.bits ≤ 63) × (m * (term_width + r.amount) ≤ 576)
+  few =
+      let b = small x.terms x.kind in
+      let n : m ≤ most_pairs = rw taken (taken_most x x.kind within) in
+      let w : r.amount ≤ 8 = rw counted.given.row.amount b.light in
+      (n, w, omega (arith, b.short, counted.given.row.bits), pairs_light m r.amount n w)
 
-        made_frame : Made x x.kind
-        made_frame = frame_made x has_row graded (fit_is true f) none
+  verdict_is : (n : ℕ) → n ≡ pairs_verdict r.amount m x.terms x.amounts → n ≡ verdict x known grades within
+  verdict_is n e = e ∙ rw (counted.given.row.amount, taken)
 
-        accepted_as : from_fields x ≡ accepted made_frame.frame
-        accepted_as = frame_accepted x has_row graded (fit_is true f) none
+  pub pairs_failed : (s : List ℕ) (e : Refusal) → number_of e ≡ pairs_verdict r.amount m x.terms x.amounts
+      → WritePost (from_fields x) s s (in_numbers (Err e))
+  pairs_failed s e n =
+      let v = verdict_is (number_of e) n in
+      rw (pairs_refused x known grades within (λ z. refusal_pos e (v ∙ z)), ← v) (refused_post s e)
 
-        size : length (encode made_frame.frame) ≡ bytes_for (r.bits + m * (term_width + r.amount))
-        size = frame_size x has_row graded (fit_is true f) none ∙ sym (rw (given.row.bits, given.row.amount, taken))
+  module _ (s : List ℕ) (sound : 0 ≡ pairs_verdict r.amount m x.terms x.amounts) where
+    pub lent : (m ≤ length x.terms) × (m ≤ length x.amounts)
+    lent = verdict_within r.amount m x.terms x.amounts (sym sound)
 
-        pub room_failed : length s < bytes_for (r.bits + m * (term_width + r.amount)) → WritePost (from_fields x) s s (in_numbers (Err Memory))
-        room_failed h = rw accepted_as (short_post made_frame.frame s (omega (arith, size)))
+    none : verdict x known grades within ≡ 0
+    none = sym (verdict_is 0 sound)
 
-        pub put_done : (t : List ℕ) (n : ℕ) → bytes_for (r.bits + m * (term_width + r.amount)) ≤ length s
-            → PutPost (written (kind_width ∷ r.widths.now) r.amount (x.kind ∷ take (length r.widths.now) values) (side_by_side m x.terms x.amounts)) s t n
-            → WritePost (from_fields x) s t (in_numbers (Ok n))
-        put_done t n h p =
-            let q : PutPost (encode made_frame.frame) s t n =
-            rw made_frame.spelled (rw (places, given.row.widths, given.post.are (fit_is true f), given.row.amount, taken) at p) in
-            rw accepted_as (done_post made_frame.frame s t n (omega (arith, size, q.size)) q)
+    abbrev made_frame : Made x x.kind
+    made_frame = frame_made x known grades within none
 
-pub unknown_fields : (x : Fields) → length (row_of x.kind).head ≡ 0 → from_fields x ≡ refused 2
+    accepted_as : from_fields x ≡ accepted made_frame.frame
+    accepted_as = frame_accepted x known grades within none
+
+    size : length (encode made_frame.frame) ≡ bytes_for (r.bits + m * (term_width + r.amount))
+    size = frame_size x known grades within none ∙ sym (rw (counted.given.row.bits, counted.given.row.amount, taken))
+
+    pub room_failed : length s < bytes_for (r.bits + m * (term_width + r.amount)) → WritePost (from_fields x) s s (in_numbers (Err Memory))
+    room_failed h = rw accepted_as (short_post made_frame.frame s (omega (arith, size)))
+
+    pub put_done : (t : List ℕ) (n : ℕ) → bytes_for (r.bits + m * (term_width + r.amount)) ≤ length s
+        → PutPost (written (kind_width ∷ r.widths.now) r.amount (x.kind ∷ take (length r.widths.now) values) (side_by_side m x.terms x.amounts)) s t n
+        → WritePost (from_fields x) s t (in_numbers (Ok n))
+    put_done t n h p =
+        let given = counted.given in
+        let q : PutPost (encode made_frame.frame) s t n =
+        rw made_frame.spelled (rw (places given, given.row.widths, given.post.are within, given.row.amount, taken) at p) in
+        rw accepted_as (done_post made_frame.frame s t n (omega (arith, size, q.size)) q)
+
+unknown_fields : (x : Fields) → length (row_of x.kind).head ≡ 0 → from_fields x ≡ refused 2
 unfolding from_kind
 unknown_fields x h = rw (le-ltb 0 (length (row_of x.kind).head) (omega arith))
+
+pub unknown_post : (x : Fields) (r : Row) (s : List ℕ) → RowPost (row_of x.kind) r → true ≡ eqb (length r.widths.now) 0
+    → WritePost (from_fields x) s s (in_numbers (Err Kind))
+unknown_post x r s row e =
+    let n : length (row_of x.kind).head ≡ 0 =
+    omega (arith, eqb-true (length r.widths.now) 0 (sym e), ap length row.widths, length-map (row_of x.kind).head width) in
+    rw (unknown_fields x n) (refused_post s Kind)

@@ -337,7 +337,10 @@ fn asked_refusal(bytes: &[u8], refusal: Refusal) -> Refusal
 pub fn read_asked(bytes: &[u8]) -> Result<Asked, Refusal>
     ensures { AskedPost (asked bytes.now) result }
 {
-    let parsed = read(bytes).map_err(|refusal| asked_refusal(bytes, refusal))?;
+    let parsed = match read(bytes) {
+        Ok(parsed) => parsed,
+        Err(refusal) => return Err(asked_refusal(bytes, refusal)),
+    };
     let Kind::Register { k, terms: n, .. } = parsed.what else {
         return Err(Refusal::Kind);
     };

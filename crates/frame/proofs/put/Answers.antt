@@ -11,6 +11,10 @@ use Rattle.frame.proofs.HeadLaws.{head_laid}
 use Rattle.frame.proofs.WriteLaws.{puts}
 use Rattle.frame.proofs.put.Goals as goal
 
+pub put_bits-requires : goal.put_bits-requires
+unfolding total
+put_bits-requires c = omega arith
+
 pub put_fields-requires : goal.put_fields-requires
 unfolding total
 put_fields-requires c = record { widths_bound = (omega arith, omega arith); fields_bound = (omega arith, c.requires.bits_value.2) }
