@@ -3,7 +3,6 @@ use Prim.Native.Nat.{ℕ}
 use native.Mathlib.Omega.{arith}
 use mathlib.Core.Path.{◌≡◌, refl, sym, ap, ◌∙◌}
 use mathlib.Core.Bool.{Bool, true, false, cond}
-use mathlib.Core.Logic.{⊎_elim}
 use mathlib.Core.List.{List, map}
 use mathlib.Core.Option.{some}
 use lib.ListN.{length}
@@ -18,7 +17,7 @@ use Rattle.paper.specs.Write.{side_by_side, pairs_in}
 use Rattle.paper.specs.Rank.{Query}
 use Rattle.paper.specs.Search.{asked, refusal_of, query_in}
 use Rattle.paper.specs.Sound.{Terms}
-use Rattle.paper.proofs.FrameLaws.{by_test, or_refused, shape_number, shape_valid}
+use Rattle.paper.proofs.FrameLaws.{by_test, or_refused, shape_valid}
 use Rattle.frame.specs.declared.Kind.{Kind}
 use Rattle.frame.specs.declared.Kind.TheVariants.{Message, Tick, Register, Unregister, Cancel}
 use Rattle.frame.specs.declared.Parsed.{Parsed}

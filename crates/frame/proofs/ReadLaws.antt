@@ -3,13 +3,13 @@ use Prim.Native.Nat.{ℕ, ◌+◌, ◌-◌, ◌*◌, ◌≤◌, ◌<◌}
 use native.Mathlib.Omega.{arith}
 use mathlib.Core.Path.{◌≡◌, refl, sym, ap, ◌∙◌, subst}
 use mathlib.Core.Bool.{Bool, true, false, cond}
-use mathlib.Core.List.{List, [], map}
+use mathlib.Core.List.{List, []}
 use lib.ListN.{length, get_or, length-map}
 use lib.Dec.{eqb, lit<}
 use borrow.Author.Tests.{ne_eqb, eqb-true, eqb-false, lt-ltb, le-ltb}
 use Rattle.std.specs.Prelude.{Result, Ok, Err, IsErrAnd}
 use Rattle.wire.specs.Field.{field, total, scan}
-use Rattle.paper.specs.Frame.{Pair, Frame, Shape, Row as TableRow, kind_width, no_row, row_of, width, widths, values_at, pairs_by, grades_known, frame_of}
+use Rattle.paper.specs.Frame.{Pair, Shape, Row as TableRow, kind_width, no_row, row_of, width, widths, values_at, pairs_by, grades_known, frame_of}
 use Rattle.paper.specs.Frame.{shape_of_kind, check, positive, rising, pairs_at, bits_of, bytes_for, fill_after, term_width, most_pairs}
 use Rattle.paper.specs.Frame.Shape.{refused, accepted}
 use Rattle.paper.specs.Refusal.{number_of}
@@ -22,7 +22,7 @@ use Rattle.frame.specs.declared.Kind.{Kind as Answer}
 use Rattle.frame.specs.declared.PairList.{PairList}
 use Rattle.frame.specs.declared.Row.{Row}
 use Rattle.frame.specs.Read.{ReadFrame, RowPost, FramedPost, PairsPost, CheckedPost, padded, term_array, amount_array}
-use Rattle.frame.specs.Read.{pairs_number, fit_number, check_number, verdict}
+use Rattle.frame.specs.Read.{pairs_number, fit_number, check_number}
 use Rattle.frame.proofs.HeadLaws.{small, get_d_padded, frame_padded, grades_padded, pairs_light}
 
 -- every refusal has a number

@@ -2,7 +2,7 @@
 -- Document 01, "The frame" and "Replies", and document 02, T-02, T-04 and T-06. Assumes nothing.
 use Rattle.std.specs.Prelude.{ℕ, zero, suc, ◌+◌, ◌*◌, ◌≤◌, ◌≡◌, Bool, true, cond, List, [], ◌∷◌, map, length, eqb, leb, Result, Ok, Err, MatchResult, ⊤}
 use Rattle.wire.specs.Field.{field, total}
-use Rattle.paper.specs.Frame.{Pair, Frame, Row as TableRow, Shape, kind_width, width, widths, row_of, kind_of, grade_of, level, grades_known, frame_of}
+use Rattle.paper.specs.Frame.{Pair, Frame, Row as TableRow, Shape, width, widths, row_of, kind_of, grade_of, level, grades_known, frame_of}
 use Rattle.paper.specs.Frame.{positive, rising, pairs_at, bytes_for, fill_after, term_width, most_pairs}
 use Rattle.paper.specs.Frame.Frame.{message, tick, register, unregister, cancel}
 use Rattle.paper.specs.Frame.Shape.{refused, accepted}

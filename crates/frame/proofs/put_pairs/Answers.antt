@@ -44,8 +44,7 @@ overflow_add-next-in-loop-i-2 c =
 pub loop-i-preserved : goal.loop-i-preserved
 loop-i-preserved c =
     let l = c.loop-i in
-    let a = c.args in
-    (
+    let a = c.args in (
       pair_next a.at l.i (10 + a.width) l.next l.invariant.0,
       put_turn a.out.now l.out c.put_bits.new.s _ a.terms.now a.amounts.now a.at a.width l.i l.next
           (omega arith) (omega arith) (omega arith) l.invariant.0 l.invariant.1 c.put_bits.ensures c.put_bits-in-loop-i.ensures,

@@ -1,6 +1,5 @@
 -- `read_kind` meets its contract. Assumes nothing.
 use native.Mathlib.Omega.{arith}
-use mathlib.Core.Path.{◌∙◌}
 use lib.ListN.{length-map}
 use Rattle.wire.specs.Field.{total}
 use Rattle.paper.specs.Frame.{row_of, width}

@@ -1,5 +1,5 @@
 -- `take_pairs` meets its contract. Assumes nothing.
-use Prim.Native.Nat.{ℕ, ◌+◌, ◌-◌}
+use Prim.Native.Nat.{◌+◌, ◌-◌}
 use native.Mathlib.Omega.{arith}
 use native.Mathlib.Nat.{zero-mul, add-zero, sub-zero}
 use mathlib.Core.Bool.{Bool}
