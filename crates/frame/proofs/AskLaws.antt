@@ -3,27 +3,27 @@ use Prim.Native.Nat.{ℕ}
 use native.Mathlib.Omega.{arith}
 use mathlib.Core.Path.{◌≡◌, refl, sym, ap, ◌∙◌}
 use mathlib.Core.Bool.{Bool, true, false, cond}
-use mathlib.Core.Logic.{⊎_elim}
 use mathlib.Core.List.{List, map}
 use mathlib.Core.Option.{some}
 use lib.ListN.{length}
 use lib.Dec.{eqb, ltb}
 use borrow.Author.Tests.{eqb-true}
 use Rattle.wire.specs.Field.{field, total}
-use Rattle.paper.specs.Frame.{Pair, Shape, row_of, widths, values_at, pairs_by, grades_known, known, frame_of, shape_of_kind, shape, pairs_at, kind_width, most_pairs}
+use Rattle.paper.specs.Frame.{Pair, Frame, Shape, row_of, widths, values_at, pairs_by, grades_known, known, frame_of, shape_of_kind, shape, pairs_at}
+use Rattle.paper.specs.Frame.{kind_width, most_pairs}
 use Rattle.paper.specs.Frame.Frame.{message, tick, register, unregister, cancel}
 use Rattle.paper.specs.Frame.Shape.{refused, accepted}
-use Rattle.paper.specs.Write.{side_by_side}
+use Rattle.paper.specs.Write.{side_by_side, pairs_in}
 use Rattle.paper.specs.Rank.{Query}
 use Rattle.paper.specs.Search.{asked, refusal_of, query_in}
 use Rattle.paper.specs.Sound.{Terms}
-use Rattle.paper.proofs.FrameLaws.{by_test, or_refused, shape_number, shape_valid}
+use Rattle.paper.proofs.FrameLaws.{by_test, or_refused, shape_valid}
 use Rattle.frame.specs.declared.Kind.{Kind}
-use Rattle.frame.specs.declared.Kind.TheVariants.{Message, Tick, Register, Unregister, Cancel, Refused}
+use Rattle.frame.specs.declared.Kind.TheVariants.{Message, Tick, Register, Unregister, Cancel}
 use Rattle.frame.specs.declared.Parsed.{Parsed}
 use Rattle.frame.specs.declared.Asked.{Asked}
-use Rattle.frame.specs.Read.{ReadPost, check_number, pairs_read, term_array, amount_array}
-use Rattle.frame.specs.Ask.{AskedPost, asked_number, query_or}
+use Rattle.frame.specs.Read.{ReadFrame, check_number, term_array, amount_array}
+use Rattle.frame.specs.Ask.{AskedQuery, asked_number}
 use Rattle.frame.proofs.ReadLaws.{check_by}
 use Rattle.frame.proofs.RoundTrip.{length_padded, beside_padded, told, read_told, count_in, count_answer}
 
@@ -76,61 +76,59 @@ module _ (s : List ℕ) where
       go false k false e = other_kind k e
 
 -- what is asked for, by the answer to the bytes as a frame
-module _ (s : List ℕ) (p : Parsed) (post : ReadPost (shape s) p) where
-  pub asked_refused : (number : ℕ) (r : Asked) → p.what ≡ Refused number → AskedPost (refused (asked_number s number)) r → AskedPost (asked s) r
-  asked_refused number r e q = rw (asked_shape s, ← read_told s p post, e) q
+module _ (s : List ℕ) where
+  pub asked_refused : (number : ℕ) → shape s ≡ refused number → asked s ≡ refused (asked_number s number)
+  asked_refused number e = asked_shape s ∙ ap (asked_of (asked_number s)) e
 
-  pub asked_other : (r : Asked) → ((t n k m : ℕ) → p.what ≡ Register t n k m → ⊥) → ((number : ℕ) → p.what ≡ Refused number → ⊥)
-      → AskedPost (refused 2) r → AskedPost (asked s) r
-  asked_other r not_register not_refused q = rw (asked_shape s, ← read_told s p post, go p.what not_register not_refused) q
-    where
-      go : (what : Kind) → ((t n k m : ℕ) → what ≡ Register t n k m → ⊥) → ((number : ℕ) → what ≡ Refused number → ⊥)
-          → asked_of (asked_number s) (told what p.terms p.amounts) ≡ refused 2
-      go (Message f t n u m) a b = refl
-      go (Tick t) a b = refl
-      go (Register t n k m) a b = absurd (a t n k m refl)
-      go (Unregister t n) a b = refl
-      go (Cancel t n) a b = refl
-      go (Refused r) a b = absurd (b r refl)
+  module _ (p : Parsed) (post : ReadFrame (shape s) p) where
+    asked_told : (what : Kind) → p.what ≡ what → asked s ≡ asked_of (asked_number s) (accepted (told what p.terms p.amounts))
+    asked_told what e = rw (asked_shape s, ← read_told s p post, e)
 
-  pub asked_register : (t n k m : ℕ) → p.what ≡ Register t n k m
-      → AskedPost (asked s) (record { number = 0; k = k; n = m; terms = p.terms; weights = p.amounts })
-  asked_register t n k m e =
-      let pairs : pairs_read (shape s) ≡ side_by_side m p.terms p.amounts = rw (← read_told s p post, e) in
-      rw (asked_shape s, ← read_told s p post, e) (record {
-        number = refl;
-        k = refl;
-        n = ap count_in (sym e ∙ post.what) ∙ count_answer (shape s) ∙ ap length pairs;
-        terms = post.terms ∙ ap term_array pairs;
-        weights = post.amounts ∙ ap amount_array pairs;
-      })
+    pub asked_other : ((t n k m : ℕ) → p.what ≡ Register t n k m → ⊥) → asked s ≡ refused 2
+    asked_other not_register = asked_told p.what refl ∙ go p.what not_register
+      where
+        go : (what : Kind) → ((t n k m : ℕ) → what ≡ Register t n k m → ⊥)
+            → asked_of (asked_number s) (accepted (told what p.terms p.amounts)) ≡ refused 2
+        go (Message f t s u m) a = refl
+        go (Tick t) a = refl
+        go (Register t n k m) a = absurd (a t n k m refl)
+        go (Unregister t n) a = refl
+        go (Cancel t n) a = refl
+
+    pub asked_register : (t n k m : ℕ) → p.what ≡ Register t n k m
+        → AskedQuery (asked s) (record { k = k; n = m; terms = p.terms; weights = p.amounts })
+    asked_register t n k m e =
+        let ps : List Pair = side_by_side m p.terms p.amounts in
+        let told_as : accepted (told p.what p.terms p.amounts) ≡ accepted post.frame = read_told s p post ∙ post.is in
+        let same : accepted (register t n k ps) ≡ accepted post.frame = rw e at told_as in
+        let pairs : pairs_in post.frame ≡ ps = in_frame _ _ (sym same) in
+        record {
+          query = record { k = k; terms = ps };
+          is = rw (asked_told (Register t n k m) e);
+          k = refl;
+          n = ap count_in (sym e ∙ post.what) ∙ count_answer post.frame ∙ ap length pairs;
+          terms = post.terms ∙ ap term_array pairs;
+          weights = post.amounts ∙ ap amount_array pairs;
+        }
+      where
+        in_frame : (f g : Frame) → accepted f ≡ accepted g → pairs_in f ≡ pairs_in g
+        in_frame f g h = let k : f ≡ g = cc in ap pairs_in k
 
 -- ---- what is asked for where nothing refuses it
 
--- a refusal stays one
-refused_still : (s : List ℕ) (r : ℕ) → asked_number s r ≡ 0 → r ≡ 0
-unfolding asked_number
-refused_still s r = by_two (ltb (length s) 5) (eqb (field s 0 kind_width) 3)
+asked_valid : (s : List ℕ) (q : Query) → query_in (asked s) ≡ some q → (refusal_of (asked s) ≡ 0) × Terms q
+asked_valid s q is = rw (asked_shape s) (go (shape s) refl (rw (asked_shape s) at is))
   where
-    by_two : (short three : Bool) → cond short r (cond three r 2) ≡ 0 → r ≡ 0
-    by_two true three z = z
-    by_two false true z = z
-    by_two false false z = absurd (omega arith)
-
-asked_valid : (s : List ℕ) → refusal_of (asked s) ≡ 0 → (q : Query) × (query_in (asked s) ≡ some q) × Terms q
-asked_valid s z = rw (asked_shape s) (go (shape s) refl (rw (asked_shape s) at z))
-  where
-    go : (x : Shape) → shape s ≡ x → refusal_of (asked_of (asked_number s) x) ≡ 0 → (q : Query) × (query_in (asked_of (asked_number s) x) ≡ some q) × Terms q
-    go (refused r) e z =
-        let none = refused_still s r z in
-        absurd (⊎_elim (λ l. omega arith) (λ f. omega arith) (shape_number s r e))
-    go (accepted (message t n g ps)) e z = absurd (omega arith)
-    go (accepted (tick t)) e z = absurd (omega arith)
-    go (accepted (register t n k ps)) e z =
+    go : (x : Shape) → shape s ≡ x → query_in (asked_of (asked_number s) x) ≡ some q → (refusal_of (asked_of (asked_number s) x) ≡ 0) × Terms q
+    go (refused r) e is = absurd cc
+    go (accepted (message t n g ps)) e is = absurd cc
+    go (accepted (tick t)) e is = absurd cc
+    go (accepted (register t n k ps)) e is =
         let v = shape_valid s (register t n k ps) e in
-        (record { k = k; terms = ps }, refl, record { k_least = v.k_least; k_most = v.k_most; terms = v.terms })
-    go (accepted (unregister t n)) e z = absurd (omega arith)
-    go (accepted (cancel t n)) e z = absurd (omega arith)
+        let same : record { k = k; terms = ps } ≡ q = cc in
+        (refl, rw (← same) (record { k_least = v.k_least; k_most = v.k_most; terms = v.terms }))
+    go (accepted (unregister t n)) e is = absurd cc
+    go (accepted (cancel t n)) e is = absurd cc
 
 -- the answer holds a query within its ranges, its pairs in two arrays
 pub record Question (s : List ℕ) (r : Asked) : Type 0 where
@@ -144,23 +142,18 @@ pub record Question (s : List ℕ) (r : Asked) : Type 0 where
   pub terms : length r.terms ≡ most_pairs
   pub weights : length r.weights ≡ most_pairs
 
-pub question : (s : List ℕ) (r : Asked) → AskedPost (asked s) r → r.number ≡ 0 → Question s r
-question s r post z =
-    let free = sym post.number ∙ z in
-    let v = asked_valid s free in
-    let q = v.0 in
-    let same : query_or (query_in (asked s)) ≡ q = ap query_or v.1 in
-    let n : r.n ≡ length q.terms = post.n ∙ ap (λ (x : Query). length x.terms) same in
-    let ts : r.terms ≡ term_array q.terms = post.terms ∙ ap (λ (x : Query). term_array x.terms) same in
-    let us : r.weights ≡ amount_array q.terms = post.weights ∙ ap (λ (x : Query). amount_array x.terms) same in
+pub question : (s : List ℕ) (r : Asked) → AskedQuery (asked s) r → Question s r
+question s r post =
+    let q = post.query in
+    let v = asked_valid s q post.is in
     record {
-      free = free;
+      free = v.0;
       query = q;
-      is = v.1;
-      valid = v.2;
-      k = post.k ∙ ap (λ (x : Query). x.k) same;
-      n = n;
-      pairs = rw (n, ts, us) (beside_padded most_pairs q.terms (omega (arith, v.2.terms.at_most)));
-      terms = ap length ts ∙ length_padded most_pairs (map (λ p. p.term) q.terms);
-      weights = ap length us ∙ length_padded most_pairs (map (λ p. p.amount) q.terms);
+      is = post.is;
+      valid = v.1;
+      k = post.k;
+      n = post.n;
+      pairs = rw (post.n, post.terms, post.weights) (beside_padded most_pairs q.terms (omega (arith, v.1.terms.at_most)));
+      terms = ap length post.terms ∙ length_padded most_pairs (map (λ p. p.term) q.terms);
+      weights = ap length post.weights ∙ length_padded most_pairs (map (λ p. p.amount) q.terms);
     }

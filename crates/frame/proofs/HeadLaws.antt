@@ -4,13 +4,14 @@ use native.Mathlib.Nat.{not-suc-le-zero, le_of_suc-le-suc, mul-le-mul}
 use native.Mathlib.Numerals.{add-one}
 use native.Mathlib.Omega.{arith}
 use mathlib.Core.Path.{◌≡◌, refl, sym, ap, ◌∙◌, subst}
-use mathlib.Core.Bool.{Bool, true, false, cond, ◌&&◌, and-true}
+use mathlib.Core.Bool.{Bool, true, false, ◌&&◌, and-true}
 use mathlib.Core.List.{List, [], ◌∷◌, ◌++◌, map, append-nil}
 use lib.ListN.{length, take, drop, get_or, set}
 use lib.Seq.{take-suc, drop-cons, length-take-le}
 use lib.Dec.{eqb, leb, ltb, lit≤, lit<}
 use lib.Pow.{pow_mono}
 use borrow.Author.Tests.{eqb-true, eqb-false, ne_eqb, ltb-true, leb-true, leb-false, lt-ltb, le-ltb, le-leb, lt-leb}
+use Rattle.std.specs.Prelude.{Ok}
 use Rattle.wire.specs.Bits.{bits, unpack}
 use Rattle.wire.specs.Field.{field, placed, total, spell, scan}
 use Rattle.wire.proofs.BitLaws.{length_bits}
@@ -27,7 +28,7 @@ use Rattle.paper.proofs.FrameLaws.{no_row_lem, by_kind, level_of}
 use Rattle.paper.proofs.WriteLaws.{and_left, and_right}
 use Rattle.frame.specs.declared.Kind.TheVariants.{Message}
 use Rattle.frame.specs.declared.Row.{Row}
-use Rattle.frame.specs.Read.{Narrow, RowWith, RowPost, padded, answer_of}
+use Rattle.frame.specs.Read.{Narrow, RowPost, FramedPost, padded}
 use Rattle.frame.specs.Write.{ValuesPost, fitting, less_one, laid}
 use Rattle.frame.proofs.LaidLaws.{laid_field, laid_then, spell_length}
 use Rattle.frame.proofs.PairLaws.{padded_more}
@@ -83,28 +84,29 @@ small s =
     (graded_small s long_pairs_width (lit≤ tt))
     (λ k none. subst (Small s) (sym none) (record { places = lit≤ tt; narrow = tt; short = lit≤ tt; light = lit≤ tt; few = lit≤ tt; third = lit< tt }))
 
--- the row with a table row's fields is that row
-pub row_as : (row : TableRow) (n : ℕ) (ws : List ℕ) (w : ℕ) (r : Row) → RowWith n ws w r
-    → kind_width + (get_or ws 0 0 + (get_or ws 1 0 + (get_or ws 2 0 + (get_or ws 3 0 + get_or ws 4 0)))) ≡ total (widths row)
-    → n ≡ length row.head → take n ws ≡ map width row.head → w ≡ row.amount → RowPost row r
-row_as row n ws w r e eb en es ew = record { bits = e.bits ∙ eb; fields = e.fields ∙ en; widths = rw (e.fields, e.widths) es; amount = e.amount ∙ ew }
+-- a row with a table row's fields is that row
+pub row_as : (row : TableRow) (r : Row) → (r.bits ≡ total (widths row)) × (r.widths.now ≡ map width row.head) × (r.amount ≡ row.amount) → RowPost row r
+row_as row r e = record { bits = e.0; widths = e.1; amount = e.2 }
 
 -- ---- widths
 
-pub narrow_at : (ws : List ℕ) (n i : ℕ) → Narrow (take n ws) → i < n → get_or ws i 0 ≤ 32
-narrow_at [] n i h l = lit≤ tt
-narrow_at (w ∷ ws) zero i h l = absurd (not-suc-le-zero l)
-narrow_at (w ∷ ws) (suc n) zero h l = h.0
-narrow_at (w ∷ ws) (suc n) (suc i) h l = narrow_at ws n i h.1 (le_of_suc-le-suc l)
+pub narrow_at : (ws : List ℕ) (i : ℕ) → Narrow ws → get_or ws i 0 ≤ 32
+narrow_at [] i h = lit≤ tt
+narrow_at (w ∷ ws) zero h = h.0
+narrow_at (w ∷ ws) (suc i) h = narrow_at ws i h.1
 
 -- a field ends before the end of all
-pub total_turn : (ws : List ℕ) (n i : ℕ) → i < n → i < length ws → total (take i ws) + get_or ws i 0 ≤ total (take n ws)
+pub total_turn : (ws : List ℕ) (i : ℕ) → i < length ws → total (take i ws) + get_or ws i 0 ≤ total ws
 unfolding total
-total_turn [] n i h l = absurd (not-suc-le-zero l)
-total_turn (w ∷ ws) zero i h l = absurd (not-suc-le-zero h)
-total_turn (w ∷ ws) (suc n) zero h l = omega arith
-total_turn (w ∷ ws) (suc n) (suc i) h l =
-    let r = total_turn ws n i (le_of_suc-le-suc h) (le_of_suc-le-suc l) in omega arith
+total_turn [] i l = absurd (not-suc-le-zero l)
+total_turn (w ∷ ws) zero l = omega arith
+total_turn (w ∷ ws) (suc i) l =
+    let r = total_turn ws i (le_of_suc-le-suc l) in omega arith
+
+-- a turn's field is narrow, and ends before the end of all
+pub field_room : (ws : List ℕ) (at next i : ℕ) → Narrow ws → i < length ws → next ≡ at + total (take i ws)
+    → (get_or ws i 0 ≤ 32) × (next + get_or ws i 0 ≤ at + total ws)
+field_room ws at next i h l e = (narrow_at ws i h, omega (arith, total_turn ws i l))
 
 -- one field more
 pub total_more : (ws : List ℕ) (i : ℕ) → i < length ws → total (take (i + 1) ws) ≡ total (take i ws) + get_or ws i 0
@@ -228,19 +230,11 @@ pub grade_third : {k : ℕ} → GradedKind k → (vs : List ℕ) → grades_know
 grade_third g vs = rw g.row (third_known g.width vs)
 
 -- the answer to a message with a grade that is one of the three
-pub graded_answer : {k : ℕ} → GradedKind k → (vs : List ℕ) (ps : List Pair) → grades_known (row_of k).head vs ≡ true
-    → answer_of (frame_of k vs ps) ≡ Message k (get_or vs 0 0) (get_or vs 1 0) (get_or vs 2 0) (length ps)
-graded_answer g vs ps known =
+pub graded_answer : {k : ℕ} → GradedKind k → (vs : List ℕ) (m : ℕ) → FramedPost k vs m (Ok (Message k (get_or vs 0 0) (get_or vs 1 0) (get_or vs 2 0) m))
+graded_answer g vs m = λ ps known em.
     let u = urgency_of (get_or vs 2 0) in
     let few : get_or vs 2 0 ≤ 2 = leb-true (get_or vs 2 0) 2 (sym (grade_third g vs) ∙ known) in
-    rw (g.frame vs ps, (g.grade u).0, (g.grade u).1, level_of (get_or vs 2 0) few)
-
--- the number of pairs by the array
-pub pairs_read_lem : (s : List ℕ) (k fields amount m : ℕ) (values : List ℕ) → fields ≡ length (row_of k).head → 0 < fields → amount ≡ (row_of k).amount
-    → values ≡ padded 5 (values_at s (row_of k)) → m ≡ cond (eqb amount 0) 0 (get_or values (fields - 1) 0 + 1) → m ≡ pairs_by (row_of k) (values_at s (row_of k))
-pairs_read_lem s k fields amount m values ef h ea ev em =
-    let p = (small s k).places in
-    rw (em, ea, ev, ef, get_d_padded 5 (values_at s (row_of k)) (length (row_of k).head - 1) (omega arith))
+    (message (get_or vs 0 0) (get_or vs 1 0) (g.form u) ps, g.frame vs ps, rw ((g.grade u).0, (g.grade u).1, level_of (get_or vs 2 0) few, em))
 
 pub pairs_light : (m w : ℕ) → m ≤ most_pairs → w ≤ 8 → m * (term_width + w) ≤ 576
 pairs_light m w h k = mul-le-mul {m₂ = 18} h (omega arith)
@@ -248,13 +242,10 @@ pairs_light m w h k = mul-le-mul {m₂ = 18} h (omega arith)
 -- ---- values that are judged
 
 -- the next of what is left
-pub fit_next : (ws vs : List ℕ) (n i : ℕ) → i < n → n ≤ length ws → n ≤ length vs
-    → fitting (take (n - i) (drop i ws)) (take (n - i) (drop i vs))
-    ≡ ltb (get_or vs i 0) (2 ^ get_or ws i 0) && fitting (take (n - (i + 1)) (drop (i + 1) ws)) (take (n - (i + 1)) (drop (i + 1) vs))
+pub fit_next : (ws vs : List ℕ) (i : ℕ) → i < length ws → i < length vs
+    → fitting (drop i ws) (drop i vs) ≡ ltb (get_or vs i 0) (2 ^ get_or ws i 0) && fitting (drop (i + 1) ws) (drop (i + 1) vs)
 unfolding fitting
-fit_next ws vs n i h k l =
-    let d : n - i ≡ suc (n - (i + 1)) = omega arith in
-    rw (d, drop-cons ws i 0 (omega arith), drop-cons vs i 0 (omega arith), add-one i)
+fit_next ws vs i h k = rw (drop-cons ws i 0 h, drop-cons vs i 0 k, add-one i)
 
 -- a number less one has few enough bits exactly if it is in range, and is then what is written
 pub less_fits : (n w : ℕ) → w ≤ 8 → ltb (less_one n) (2 ^ w) ≡ within (2 ^ w) n

@@ -1,6 +1,6 @@
 -- Laws of pairs: as they are judged one by one, and as they stand in an array. Assumes nothing.
 use Prim.Native.Nat.{ℕ, zero, suc, ◌+◌, ◌-◌, ◌*◌, ◌/◌, ◌%◌, ◌^◌, ◌≤◌, ◌<◌}
-use native.Mathlib.Nat.{add-zero, suc-mul, zero-mul, not-suc-le-zero, le_of_suc-le-suc, mul-le-mul_right}
+use native.Mathlib.Nat.{add-zero, suc-mul, zero-mul, not-suc-le-zero, le_of_suc-le-suc, mul-le-mul_right, lt_of_lt_of_le}
 use native.Mathlib.Numerals.{add-one}
 use native.Mathlib.Omega.{arith}
 use mathlib.Core.Path.{◌≡◌, refl, sym, ap, ◌∙◌}
@@ -8,13 +8,13 @@ use mathlib.Core.Bool.{Bool, true, false, cond, ◌&&◌}
 use mathlib.Core.List.{List, [], ◌∷◌, ◌++◌, map, map-append}
 use lib.ListN.{length, take, drop, get_or, set, length-map, length-drop}
 use lib.Seq.{drop-cons, length-take-le, take-add, drop-drop}
-use lib.Pow.{high, low}
+use lib.Pow.{high, low, pow_mono}
 use lib.Dec.{eqb, leb, ltb, eqb-suc-zero}
 use Rattle.wire.specs.Bits.{num, unpack}
 use Rattle.wire.specs.Field.{field}
 use Rattle.wire.proofs.BitLaws.{num_append, length_unpack}
 use Rattle.wire.proofs.FieldLaws.{field_lt}
-use Rattle.paper.specs.Frame.{Pair, positive, rises, pairs_at, term_width, most_pairs}
+use Rattle.paper.specs.Frame.{Pair, positive, rises, pairs_at, term_width, count_width, most_pairs}
 use Rattle.paper.proofs.FrameLaws.{length_pairs}
 use Rattle.paper.specs.Write.{side_by_side, all_within}
 use Rattle.frame.specs.Read.{padded, pairs_number, judge_next}
@@ -82,10 +82,10 @@ field_parts s at a b h =
     ap num (take-add a b l) ∙ num_append (take a l) (take b (drop a l)) ∙ rw (n, drop-drop a at (unpack s))
 
 -- a pair's term and amount in its bits
-pub pair_term : (s : List ℕ) (at w : ℕ) → at + (term_width + w) ≤ 8 * length s → field s at (term_width + w) / 2 ^ w ≡ field s at term_width
+pair_term : (s : List ℕ) (at w : ℕ) → at + (term_width + w) ≤ 8 * length s → field s at (term_width + w) / 2 ^ w ≡ field s at term_width
 pair_term s at w h = rw (field_parts s at term_width w h) (high (field s at term_width) w (field_lt s (at + term_width) w))
 
-pub pair_amount : (s : List ℕ) (at w : ℕ) → at + (term_width + w) ≤ 8 * length s → field s at (term_width + w) % 2 ^ w ≡ field s (at + term_width) w
+pair_amount : (s : List ℕ) (at w : ℕ) → at + (term_width + w) ≤ 8 * length s → field s at (term_width + w) % 2 ^ w ≡ field s (at + term_width) w
 pair_amount s at w h = rw (field_parts s at term_width w h) (low (field s at term_width) w (field_lt s (at + term_width) w))
 
 -- the pair at bit `at`
@@ -119,9 +119,32 @@ padded_more (suc n) (y ∷ xs) x h = ap (λ (l : List ℕ). y ∷ l) (padded_mor
 
 -- ---- a turn of a loop over pairs
 
--- the pair of a turn lies before the end of all
-pub turn_fits : (at m i c n : ℕ) → i < m → at + m * c ≤ n → at + i * c + c ≤ n
-turn_fits at m i c n h e = let k : suc i * c ≤ m * c = mul-le-mul_right c h in omega (arith, k, suc-mul i c)
+-- the pair of a turn ends before the end of all
+pub pair_room : (at m i c next : ℕ) → i < m → next ≡ at + i * c → next + c ≤ at + m * c
+pair_room at m i c next h e = let k : suc i * c ≤ m * c = mul-le-mul_right c h in omega (arith, k, suc-mul i c)
+
+-- the next pair follows it
+pub pair_next : (at i c next : ℕ) → next ≡ at + i * c → next + c ≡ at + (i + 1) * c
+pair_next at i c next e = rw (e, add-one i, suc-mul i c) (omega arith)
+
+-- the term and the amount of a pair that is read as one number
+pub record PairRead (s : List ℕ) (next w term amount : ℕ) : Type 0 where
+  pub term_is : term ≡ field s next term_width
+  pub amount_is : amount ≡ field s (next + term_width) w
+  pub term_small : term < 2 ^ term_width
+  pub amount_small : amount < 2 ^ count_width
+
+pub pair_read : (s : List ℕ) (next w both term amount : ℕ) → next + (term_width + w) ≤ 8 * length s → w ≤ count_width
+    → both ≡ field s next (term_width + w) → term ≡ both / 2 ^ w → amount ≡ both % 2 ^ w → PairRead s next w term amount
+pair_read s next w both term amount h few eb et ea =
+    let t : term ≡ field s next term_width = et ∙ rw eb (pair_term s next w h) in
+    let u : amount ≡ field s (next + term_width) w = ea ∙ rw eb (pair_amount s next w h) in
+    record {
+      term_is = t;
+      amount_is = u;
+      term_small = rw t (field_lt s next term_width);
+      amount_small = rw u (lt_of_lt_of_le (field_lt s (next + term_width) w) (pow_mono {j = count_width} few));
+    }
 
 module _ (s : List ℕ) (w i next : ℕ) where
   -- one place more of an array

@@ -6,24 +6,30 @@ use native.Mathlib.Omega.{arith}
 use mathlib.Core.Path.{◌≡◌, refl, sym, ap, ap₂, ◌∙◌}
 use mathlib.Core.Bool.{Bool, true, false, cond, ◌&&◌}
 use mathlib.Core.List.{List, [], ◌∷◌, ◌++◌, map, append_assoc, append-nil}
-use lib.ListN.{length, take, drop, get_or, length-append}
+use lib.ListN.{length, take, drop, get_or, length-append, length-map}
 use lib.Dec.{eqb, leb}
-use borrow.Author.Tests.{leb-true, lt-ltb, le-ltb, le-leb, lt-leb, ne_eqb}
+use Rattle.std.specs.Prelude.{Ok, Err}
+use borrow.Author.Tests.{eqb-true, leb-true, lt-ltb, le-ltb, le-leb, lt-leb, ne_eqb}
 use Rattle.wire.specs.Bits.{bits, unpack, pack, Bytes}
 use Rattle.wire.specs.Field.{placed, spell, total}
 use Rattle.wire.proofs.BitLaws.{length_bits}
 use Rattle.wire.proofs.LayoutLaws.{spell_append}
-use Rattle.paper.specs.Frame.{Pair, Frame, Fields, Shape, kind_width, row_of, widths, grades_known, frame_of, judged, written_by, pair_widths, pair_values, term_width, bits_of, bytes_for, fill_after, written, encode, rising}
+use Rattle.paper.specs.Frame.{Pair, Frame, Fields, Shape, kind_width, row_of, width, widths, grades_known, frame_of, judged, pair_widths, pair_values}
+use Rattle.paper.specs.Frame.{term_width, most_pairs, bits_of, bytes_for, fill_after, written, encode, rising}
 use Rattle.paper.specs.Frame.Shape.{refused, accepted}
 use Rattle.paper.specs.Write.{side_by_side, all_within, head_within, value_of, pairs_taken, pairs_within, pairs_of, from_kind, from_fields}
+use Rattle.paper.specs.Refusal.{number_of}
+use Rattle.paper.specs.declared.refusal.Refusal.{Refusal}
+use Rattle.paper.specs.declared.refusal.Refusal.TheVariants.{Kind, Value, Memory, Urgency}
 use Rattle.paper.proofs.Tests.{and_true}
 use Rattle.frame.specs.declared.Row.{Row}
-use Rattle.frame.specs.declared.Written.{Written}
-use Rattle.frame.specs.Read.{RowPost, pairs_number}
-use Rattle.frame.specs.Write.{WritePost, ValuesPost, PutPost, fitting, pairs_verdict, pair_bits, laid}
+use Rattle.frame.specs.Read.{Narrow, RowPost, pairs_number}
+use Rattle.frame.specs.Write.{WritePost, in_numbers, ValuesPost, PutPost, fitting, pairs_verdict, pair_bits, laid}
 use Rattle.paper.proofs.FrameLaws.{encode_length}
-use Rattle.paper.proofs.WriteLaws.{length_side, Made, made}
+use Rattle.paper.proofs.WriteLaws.{length_side, Made, made, taken_most}
 use Rattle.frame.proofs.LaidLaws.{laid_field, laid_then, spell_length, pack_over}
+use Rattle.frame.proofs.HeadLaws.{small, pairs_light}
+use Rattle.frame.proofs.ReadLaws.{refusal_pos}
 
 -- ---- the pairs that are handed over
 
@@ -38,7 +44,7 @@ none_refused sound ps e = go sound (rising ps) e
     go false b e = absurd (omega arith)
 
 -- there are then as many as are said
-pub verdict_within : (w n : ℕ) (ts us : List ℕ) → pairs_verdict w n ts us ≡ 0 → (n ≤ length ts) × (n ≤ length us)
+verdict_within : (w n : ℕ) (ts us : List ℕ) → pairs_verdict w n ts us ≡ 0 → (n ≤ length ts) × (n ≤ length us)
 unfolding pairs_verdict
 verdict_within w n ts us e =
     let k = and_true (leb n (length ts) && leb n (length us)) (all_within w (side_by_side n ts us)) (none_refused _ (side_by_side n ts us) e).0 in
@@ -143,26 +149,22 @@ module _ (head values ts us : List ℕ) (w n : ℕ) (lh : length head ≡ length
 
 -- ---- what is answered
 
-pub refused_post : (s : List ℕ) (n : ℕ) (r : Written) → r.number ≡ n → (n ≡ 0 → ⊥) → r.length ≡ 0 → WritePost (refused n) s s r
-refused_post s n r e h z = record {
-  number = e;
-  size = rw (e, ne_eqb n 0 h) z;
-  bytes = rw (e, ne_eqb n 0 h);
+refused_post : (s : List ℕ) (e : Refusal) → WritePost (refused (number_of e)) s s (in_numbers (Err e))
+refused_post s e = record {
+  number = refl;
+  size = rw (ne_eqb (number_of e) 0 (refusal_pos e));
+  bytes = rw (ne_eqb (number_of e) 0 (refusal_pos e));
 }
 
 -- 12
-pub short_post : (f : Frame) (s : List ℕ) (r : Written) → length s < length (encode f) → r.number ≡ 12 → r.length ≡ 0 → WritePost (accepted f) s s r
-short_post f s r h n z = record {
-  number = rw (lt-leb (length (encode f)) (length s) h) n;
-  size = rw n z;
-  bytes = rw n;
-}
+short_post : (f : Frame) (s : List ℕ) → length s < length (encode f) → WritePost (accepted f) s s (in_numbers (Err Memory))
+short_post f s h = record { number = rw (lt-leb (length (encode f)) (length s) h); size = refl; bytes = refl }
 
-pub done_post : (f : Frame) (s t : List ℕ) (r : Written) → r.length ≤ length s → r.number ≡ 0 → PutPost (encode f) s t r.length → WritePost (accepted f) s t r
-done_post f s t r h n p = record {
-  number = rw (le-leb (length (encode f)) (length s) (omega arith)) n;
-  size = rw n p.size;
-  bytes = rw n (p.put ∙ ap (λ (k : ℕ). encode f ++ drop k s) p.size);
+done_post : (f : Frame) (s t : List ℕ) (n : ℕ) → n ≤ length s → PutPost (encode f) s t n → WritePost (accepted f) s t (in_numbers (Ok n))
+done_post f s t n h p = record {
+  number = rw (le-leb (length (encode f)) (length s) (omega arith));
+  size = p.size;
+  bytes = p.put ∙ ap (λ (k : ℕ). encode f ++ drop k s) p.size;
 }
 
 -- by the row of the fields' kind
@@ -176,19 +178,19 @@ module _ (x : Fields) (known : 0 < length (row_of x.kind).head) where
   unfolding from_kind
   by_row = rw (lt-ltb 0 (length (row_of x.kind).head) known)
 
-  pub grade_refused : grades_known (row_of x.kind).head values ≡ false → from_fields x ≡ refused 14
+  grade_refused : grades_known (row_of x.kind).head values ≡ false → from_fields x ≡ refused 14
   grade_refused g = by_row ∙ rw g
 
   module _ (g : grades_known (row_of x.kind).head values ≡ true) where
-    pub head_refused : head_within (row_of x.kind).head x ≡ false → from_fields x ≡ refused 5
+    head_refused : head_within (row_of x.kind).head x ≡ false → from_fields x ≡ refused 5
     head_refused h = by_row ∙ rw (g, h)
 
     module _ (h : head_within (row_of x.kind).head x ≡ true) where
       -- 5 or 6, or 0, of the pairs
-      abbrev pub verdict : ℕ
+      abbrev verdict : ℕ
       verdict = pairs_verdict (row_of x.kind).amount (pairs_taken (row_of x.kind) x) x.terms x.amounts
 
-      pub pairs_refused : (verdict ≡ 0 → ⊥) → from_fields x ≡ refused verdict
+      pairs_refused : (verdict ≡ 0 → ⊥) → from_fields x ≡ refused verdict
       unfolding pairs_verdict pairs_number
       pairs_refused z = by_row ∙ rw (g, h) (go (pairs_within (row_of x.kind) x) (rising (pairs_of (row_of x.kind) x)) _ z)
         where
@@ -199,18 +201,18 @@ module _ (x : Fields) (known : 0 < length (row_of x.kind).head) where
           go false b made z = refl
 
       -- the frame that is written
-      pub frame_made : verdict ≡ 0 → Made x x.kind
+      frame_made : verdict ≡ 0 → Made x x.kind
       frame_made z =
           let l = verdict_within (row_of x.kind).amount (pairs_taken (row_of x.kind) x) x.terms x.amounts z in
           made x x.kind known g (length_side (pairs_taken (row_of x.kind) x) x.terms x.amounts l.0 l.1)
 
-      pub frame_accepted : (z : verdict ≡ 0) → from_fields x ≡ accepted (frame_made z).frame
+      frame_accepted : (z : verdict ≡ 0) → from_fields x ≡ accepted (frame_made z).frame
       unfolding pairs_verdict
       frame_accepted z =
           let p = none_refused (pairs_within (row_of x.kind) x) (pairs_of (row_of x.kind) x) z in
           by_row ∙ rw (g, h, p.0, p.1) (frame_made z).is
 
-      pub frame_size : (z : verdict ≡ 0)
+      frame_size : (z : verdict ≡ 0)
           → length (encode (frame_made z).frame) ≡ bytes_for (bits_of (widths (row_of x.kind)) (row_of x.kind).amount (pairs_taken (row_of x.kind) x))
       frame_size z =
           let row = row_of x.kind in
@@ -220,35 +222,107 @@ module _ (x : Fields) (known : 0 < length (row_of x.kind).head) where
 
 -- ---- by the code's row
 
-module _ (x : Fields) (r : Row) (row : RowPost (row_of x.kind) r) where
-  -- the grade among the values is the fields'
-  pub grade_as : (vs : List ℕ) (b : Bool) → ValuesPost x vs → b ≡ grades_known (row_of x.kind).head vs
-      → b ≡ grades_known (row_of x.kind).head (map (value_of x) (row_of x.kind).head)
-  grade_as vs b post e = e ∙ post.grades
+-- what the writer knows once it has the values of a kind's fields
+pub record Given (x : Fields) (r : Row) (values : List ℕ) : Type 0 where
+  pub row : RowPost (row_of x.kind) r
+  pub has : 0 < length r.widths.now
+  pub post : ValuesPost x values
 
-  -- the values fit exactly if the fields are in range
-  pub fit_as : (vs : List ℕ) (b : Bool) → ValuesPost x vs → b ≡ fitting (take r.fields r.widths) (take r.fields vs)
-      → b ≡ head_within (row_of x.kind).head x
-  fit_as vs b post e = e ∙ rw (row.widths, row.fields) post.fit
+module _ {x : Fields} {r : Row} {values : List ℕ} (given : Given x r values) where
+  places : length r.widths.now ≡ length (row_of x.kind).head
+  places = ap length given.row.widths ∙ length-map (row_of x.kind).head width
 
-  pub taken_as : (m : ℕ) → m ≡ cond (eqb r.amount 0) 0 x.pairs → m ≡ pairs_taken (row_of x.kind) x
-  taken_as m e = e ∙ rw row.amount
+  has_row : 0 < length (row_of x.kind).head
+  has_row = omega (arith, places, given.has)
 
-  module _ (m : ℕ) (taken : m ≡ pairs_taken (row_of x.kind) x) where
-    pub verdict_as : (n : ℕ) → n ≡ pairs_verdict r.amount m x.terms x.amounts
-        → n ≡ pairs_verdict (row_of x.kind).amount (pairs_taken (row_of x.kind) x) x.terms x.amounts
-    verdict_as n e = e ∙ rw (row.amount, taken)
+  pub narrow : (length r.widths.now ≤ 5) × Narrow r.widths.now
+  narrow = let b = small x.terms x.kind in (omega (arith, places, b.places), rw given.row.widths b.narrow)
 
-    pub size_as : (n : ℕ) → n ≡ bytes_for (bits_of (widths (row_of x.kind)) (row_of x.kind).amount (pairs_taken (row_of x.kind) x))
-        → n ≡ bytes_for (r.bits + m * (term_width + r.amount))
-    size_as n e = e ∙ sym (rw (row.bits, row.amount, taken))
+  pub grade_failed : (s : List ℕ) → grades_known (row_of x.kind).head values ≡ false → WritePost (from_fields x) s s (in_numbers (Err Urgency))
+  grade_failed s g = rw (grade_refused x has_row (sym given.post.grades ∙ g)) (refused_post s Urgency)
 
-    pub put_as : (values b s t : List ℕ) (n : ℕ) → take (length (row_of x.kind).head) values ≡ map (value_of x) (row_of x.kind).head
-        → b ≡ written_by (row_of x.kind) (x.kind ∷ map (value_of x) (row_of x.kind).head) (pairs_of (row_of x.kind) x)
-        → PutPost (written (kind_width ∷ take r.fields r.widths) r.amount (x.kind ∷ take r.fields values) (side_by_side m x.terms x.amounts)) s t n
-        → PutPost b s t n
-    put_as values b s t n v e p = rw e (rw (row.widths, row.fields, v, row.amount, taken) at p)
+  fit_is : (b : Bool) → fitting r.widths.now values ≡ b → head_within (row_of x.kind).head x ≡ b
+  fit_is b f = sym given.post.fit ∙ rw (← given.row.widths) f
 
-pub unknown_fields : (x : Fields) → length (row_of x.kind).head ≡ 0 → from_fields x ≡ refused 2
+  graded : grades_known (row_of x.kind).head values ≡ true → grades_known (row_of x.kind).head (map (value_of x) (row_of x.kind).head) ≡ true
+  graded g = sym given.post.grades ∙ g
+
+  pub fit_failed : (s : List ℕ) → grades_known (row_of x.kind).head values ≡ true → fitting r.widths.now values ≡ false
+      → WritePost (from_fields x) s s (in_numbers (Err Value))
+  fit_failed s g f = rw (head_refused x has_row (graded g) (fit_is false f)) (refused_post s Value)
+
+-- and once it has judged them, and counted the pairs
+pub record Counted (x : Fields) (r : Row) (values : List ℕ) (m : ℕ) : Type 0 where
+  pub given : Given x r values
+  pub grades : grades_known (row_of x.kind).head values ≡ true
+  pub fits : fitting r.widths.now values ≡ true
+  pub said : m ≡ cond (eqb r.amount 0) 0 x.pairs
+
+module _ {x : Fields} {r : Row} {values : List ℕ} {m : ℕ} (counted : Counted x r values m) where
+  abbrev known : 0 < length (row_of x.kind).head
+  known = has_row counted.given
+
+  abbrev grades : grades_known (row_of x.kind).head (map (value_of x) (row_of x.kind).head) ≡ true
+  grades = graded counted.given counted.grades
+
+  abbrev within : head_within (row_of x.kind).head x ≡ true
+  within = fit_is counted.given true counted.fits
+
+  taken : m ≡ pairs_taken (row_of x.kind) x
+  taken = counted.said ∙ rw counted.given.row.amount
+
+  -- the frame is small
+  pub few : (m ≤ most_pairs) × (r.amount ≤ 8) × (r.bits ≤ 63) × (m * (term_width + r.amount) ≤ 576)
+  few =
+      let b = small x.terms x.kind in
+      let n : m ≤ most_pairs = rw taken (taken_most x x.kind within) in
+      let w : r.amount ≤ 8 = rw counted.given.row.amount b.light in
+      (n, w, omega (arith, b.short, counted.given.row.bits), pairs_light m r.amount n w)
+
+  verdict_is : (n : ℕ) → n ≡ pairs_verdict r.amount m x.terms x.amounts → n ≡ verdict x known grades within
+  verdict_is n e = e ∙ rw (counted.given.row.amount, taken)
+
+  pub pairs_failed : (s : List ℕ) (e : Refusal) → number_of e ≡ pairs_verdict r.amount m x.terms x.amounts
+      → WritePost (from_fields x) s s (in_numbers (Err e))
+  pairs_failed s e n =
+      let v = verdict_is (number_of e) n in
+      rw (pairs_refused x known grades within (λ z. refusal_pos e (v ∙ z)), ← v) (refused_post s e)
+
+  module _ (s : List ℕ) (sound : 0 ≡ pairs_verdict r.amount m x.terms x.amounts) where
+    pub lent : (m ≤ length x.terms) × (m ≤ length x.amounts)
+    lent = verdict_within r.amount m x.terms x.amounts (sym sound)
+
+    none : verdict x known grades within ≡ 0
+    none = sym (verdict_is 0 sound)
+
+    abbrev made_frame : Made x x.kind
+    made_frame = frame_made x known grades within none
+
+    accepted_as : from_fields x ≡ accepted made_frame.frame
+    accepted_as = frame_accepted x known grades within none
+
+    size : length (encode made_frame.frame) ≡ bytes_for (r.bits + m * (term_width + r.amount))
+    size = frame_size x known grades within none ∙ sym (rw (counted.given.row.bits, counted.given.row.amount, taken))
+
+    pub room_failed : length s < bytes_for (r.bits + m * (term_width + r.amount)) → WritePost (from_fields x) s s (in_numbers (Err Memory))
+    room_failed h = rw accepted_as (short_post made_frame.frame s (omega (arith, size)))
+
+    pub put_done : (t : List ℕ) (n : ℕ) → bytes_for (r.bits + m * (term_width + r.amount)) ≤ length s
+        → PutPost (written (kind_width ∷ r.widths.now) r.amount (x.kind ∷ take (length r.widths.now) values) (side_by_side m x.terms x.amounts)) s t n
+        → WritePost (from_fields x) s t (in_numbers (Ok n))
+    put_done t n h p =
+        let given = counted.given in
+        let q : PutPost (encode made_frame.frame) s t n =
+        rw made_frame.spelled (rw (places given, given.row.widths, given.post.are within, given.row.amount, taken) at p) in
+        rw accepted_as (done_post made_frame.frame s t n (omega (arith, size, q.size)) q)
+
+unknown_fields : (x : Fields) → length (row_of x.kind).head ≡ 0 → from_fields x ≡ refused 2
 unfolding from_kind
 unknown_fields x h = rw (le-ltb 0 (length (row_of x.kind).head) (omega arith))
+
+pub unknown_post : (x : Fields) (r : Row) (s : List ℕ) → RowPost (row_of x.kind) r → true ≡ eqb (length r.widths.now) 0
+    → WritePost (from_fields x) s s (in_numbers (Err Kind))
+unknown_post x r s row e =
+    let n : length (row_of x.kind).head ≡ 0 =
+    omega (arith, eqb-true (length r.widths.now) 0 (sym e), ap length row.widths, length-map (row_of x.kind).head width) in
+    rw (unknown_fields x n) (refused_post s Kind)

@@ -1,26 +1,29 @@
--- What the reader of a search's frame answers: the query that is asked for, its terms in two arrays, or the number that refuses it.
+-- What the reader of a search's frame answers: the query that is asked for, its terms in two arrays, or its refusal.
 -- Document 02, T-05. Assumes nothing.
-use Rattle.std.specs.Prelude.{ℕ, ◌≡◌, cond, List, [], length, eqb, ltb}
-use Rattle.std.proofs.Math.Option.{Option, none, some}
+use Rattle.std.specs.Prelude.{ℕ, ◌≡◌, cond, List, length, eqb, ltb, Result, MatchResult}
+use Rattle.std.proofs.Math.Option.{some}
 use Rattle.wire.specs.Field.{field}
 use Rattle.paper.specs.Frame.{Shape, kind_width}
+use Rattle.paper.specs.Frame.Shape.{refused}
 use Rattle.paper.specs.Rank.{Query}
-use Rattle.paper.specs.Search.{refusal_of, query_in}
+use Rattle.paper.specs.Refusal.{number_of}
+use Rattle.paper.specs.Search.{query_in}
+use Rattle.paper.specs.declared.refusal.Refusal.{Refusal}
 use Rattle.frame.specs.declared.Asked.{Asked}
 use Rattle.frame.specs.Read.{term_array, amount_array}
 
--- the query, and one of no length and no terms where there is none
-abbrev pub query_or : Option Query → Query
-query_or none = record { k = 0; terms = [] }
-query_or (some q) = q
+-- the query that a shape asks for
+pub record AskedQuery (sh : Shape) (a : Asked) : Type 0 where
+  pub query : Query
+  pub is : query_in sh ≡ some query
+  pub k : a.k ≡ query.k
+  pub n : a.n ≡ length query.terms
+  pub terms : a.terms ≡ term_array query.terms
+  pub weights : a.weights ≡ amount_array query.terms
 
 -- the promise of `read_asked`, for what its bytes ask
-pub record AskedPost (sh : Shape) (r : Asked) : Type 0 where
-  pub number : r.number ≡ refusal_of sh
-  pub k : r.k ≡ (query_or (query_in sh)).k
-  pub n : r.n ≡ length (query_or (query_in sh)).terms
-  pub terms : r.terms ≡ term_array (query_or (query_in sh)).terms
-  pub weights : r.weights ≡ amount_array (query_or (query_in sh)).terms
+abbrev pub AskedPost : Shape → Result Asked Refusal → Type 0
+AskedPost sh r = MatchResult r (AskedQuery sh) (λ e. sh ≡ refused (number_of e))
 
 -- the number that refuses a search, of a frame that this number refuses: "every kind but 3 refused as 2", unless it is too short
 unfoldable pub asked_number : List ℕ → ℕ → ℕ

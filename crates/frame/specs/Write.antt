@@ -1,18 +1,28 @@
 -- What the writer answers and leaves in the output. Document 01, "The frame" and "Replies", and document 02, T-02, T-04 and T-06. Assumes nothing.
-use Rattle.std.specs.Prelude.{ℕ, ◌+◌, ◌-◌, ◌^◌, ◌≡◌, Bool, true, cond, ◌&&◌, List, [], ◌∷◌, ◌++◌, map, length, take, drop, eqb, leb, ltb}
+use Rattle.std.specs.Prelude.{ℕ, ◌+◌, ◌-◌, ◌^◌, ◌≡◌, Bool, true, cond, ◌&&◌, List, [], ◌∷◌, ◌++◌, map, length, take, drop, eqb, leb, ltb, Result, Ok, Err}
 use Rattle.wire.specs.Bits.{unpack}
 use Rattle.paper.specs.Frame.{Fields, Shape, width, row_of, grades_known, term_width, pair_widths, pair_values}
+use Rattle.paper.specs.Refusal.{number_of}
 use Rattle.paper.specs.Write.{side_by_side, within, all_within, head_within, value_of, fields_for, write_number, bytes_of}
+use Rattle.paper.specs.declared.refusal.Refusal.{Refusal}
 use Rattle.wire.specs.Field.{spell}
 use Rattle.frame.specs.declared.Kind.{Kind}
-use Rattle.frame.specs.declared.Kind.TheVariants.{Message, Tick, Register, Unregister, Cancel, Refused}
+use Rattle.frame.specs.declared.Kind.TheVariants.{Message, Tick, Register, Unregister, Cancel}
 use Rattle.frame.specs.declared.Parsed.{Parsed}
-use Rattle.frame.specs.declared.Written.{Written}
 use Rattle.frame.specs.Read.{pairs_number}
 
 -- the fields that are handed over
 abbrev pub fields : (kind time serial urgency number k pairs : ℕ) (terms amounts : List ℕ) → Fields
 fields = fields_for
+
+-- a writing's answer in numbers: 0 and the frame's length in bytes, or the refusal's and 0
+pub record Written : Type 0 where
+  pub number : ℕ
+  pub length : ℕ
+
+abbrev pub in_numbers : Result ℕ Refusal → Written
+in_numbers (Ok n) = record { number = 0; length = n }
+in_numbers (Err e) = record { number = number_of e; length = 0 }
 
 -- the promise of `write`, for what its fields are, with output s at entry and t at exit: the frame's bytes and what stood past them where the
 -- number is 0, and else the output as it was
@@ -21,14 +31,13 @@ pub record WritePost (sh : Shape) (s t : List ℕ) (r : Written) : Type 0 where
   pub size : r.length ≡ cond (eqb r.number 0) (length (bytes_of sh)) 0
   pub bytes : t ≡ cond (eqb r.number 0) (bytes_of sh ++ drop (length (bytes_of sh)) s) s
 
--- the fields that an answer of the reader lists, for the writer; none of a kind for a refusal
+-- the fields that an answer of the reader lists, for the writer
 abbrev pub fields_by : Kind → List ℕ → List ℕ → Fields
 fields_by (Message form t s u n) terms amounts = fields form t s u 0 0 n terms amounts
 fields_by (Tick t) terms amounts = fields 2 t 0 0 0 0 0 terms amounts
 fields_by (Register t n k m) terms amounts = fields 3 t 0 0 n k m terms amounts
 fields_by (Unregister t n) terms amounts = fields 4 t 0 0 n 0 0 terms amounts
 fields_by (Cancel t s) terms amounts = fields 5 t s 0 0 0 0 terms amounts
-fields_by (Refused r) terms amounts = fields 0 0 0 0 0 0 0 terms amounts
 
 abbrev pub fields_in : Parsed → Fields
 fields_in r = fields_by r.what r.terms r.amounts
@@ -53,7 +62,7 @@ fitting (w ∷ ws) (v ∷ vs) = ltb v (2 ^ w) && fitting ws vs
 -- is written
 pub record ValuesPost (x : Fields) (values : List ℕ) : Type 0 where
   pub grades : grades_known (row_of x.kind).head values ≡ grades_known (row_of x.kind).head (map (value_of x) (row_of x.kind).head)
-  pub fit : fitting (map width (row_of x.kind).head) (take (length (row_of x.kind).head) values) ≡ head_within (row_of x.kind).head x
+  pub fit : fitting (map width (row_of x.kind).head) values ≡ head_within (row_of x.kind).head x
   pub are : head_within (row_of x.kind).head x ≡ true → take (length (row_of x.kind).head) values ≡ map (value_of x) (row_of x.kind).head
 
 -- 5 or 6, or 0, of the pairs that are handed over

@@ -4,17 +4,19 @@
 ghost use Rattle.std.specs.Prelude.{◌≡◌, ℕ, ◌+◌, ◌-◌, ◌*◌, ◌/◌, ◌%◌, ◌≤◌, ◌<◌, ◌^◌, length, take, get_or, eqb, cond, List, ◌∷◌};
 ghost use Rattle.wire.specs.Bits.{unpack};
 ghost use Rattle.wire.specs.Field.{field, placed, total, spell, scan};
-ghost use Rattle.paper.specs.Frame.{shape, shape_of_kind, row_of, grades_known, kind_width, count_width, most_pairs, written, bytes_for, fill_after};
-ghost use Rattle.paper.specs.Frame.Shape.{refused};
+ghost use Rattle.paper.specs.Frame.{shape, shape_of_kind, row_of, grades_known, kind_width, count_width};
+ghost use Rattle.paper.specs.Frame.{most_pairs, written, bytes_for, fill_after};
+ghost use Rattle.paper.specs.Refusal.{number_of};
 ghost use Rattle.paper.specs.Write.{from_fields, side_by_side};
 ghost use Rattle.paper.specs.Search.{asked};
-ghost use Rattle.frame.specs.Read.{ReadPost, PairsPost, CheckedPost, RowWith, RowPost, FramedPost, Narrow, padded, judge_next, fit_number};
+ghost use Rattle.frame.specs.Read.{ReadPost, PairsPost, CheckedPost, RowPost, FramedPost, Narrow, padded, judge_next, fit_number, verdict};
 ghost use Rattle.frame.specs.Ask.{AskedPost, asked_number};
-ghost use Rattle.frame.specs.Write.{WritePost, ValuesPost, PutPost, fields, fitting, less_one, sound_pair, pairs_verdict, pair_bits, laid};
+ghost use Rattle.frame.specs.Write.{WritePost, ValuesPost, PutPost, fields, fitting, less_one, sound_pair, pairs_verdict};
+ghost use Rattle.frame.specs.Write.{pair_bits, laid, in_numbers};
 
-use paper::MOST_PAIRS;
+use paper::{MOST_PAIRS, Refusal};
 
-// What a frame is, or the number that refuses it. Its pairs stand beside it, in Parsed.
+// What a frame is. Its pairs stand beside it, in Parsed.
 #[derive(Clone, Copy)]
 pub enum Kind {
     // The form is the kind that it was written in: 1, whose messages are routine, 6 or 7.
@@ -42,7 +44,6 @@ pub enum Kind {
         time: u32,
         serial: u32,
     },
-    Refused(u32),
 }
 
 // The places of both arrays past the frame's pairs are 0. They are as narrow as their fields allow, since every frame pays for moving them, however few
@@ -54,49 +55,46 @@ pub struct Parsed {
     pub amounts: [u8; MOST_PAIRS],
 }
 
-// A frame's pairs; where they are refused, number says by what, and else is 0.
+// A frame's pairs.
 #[derive(Clone, Copy)]
 struct PairList {
-    number: u32,
     terms: [u16; MOST_PAIRS],
     amounts: [u8; MOST_PAIRS],
 }
 
-// A kind's row of the table: the widths of its fields after the kind, in the first places of an array, and of a count or weight, which is 0 where the
-// kind has no pairs; and the bits of all its fields before the pairs. A kind without a row has no fields.
+// A kind's row of the table: the bits of all its fields before the pairs, the widths of those after the kind, and of a count or weight, which is 0 where
+// the kind has no pairs. A kind without a row has no fields.
 #[derive(Clone, Copy)]
 struct Row {
     bits: usize,
-    fields: usize,
-    widths: [usize; 5],
+    widths: &'static [usize],
     amount: usize,
 }
 
-fn row_with(fields: usize, widths: [usize; 5], amount: usize) -> Row
-    requires { Narrow (take 5 widths) }
-    ensures { RowWith fields widths amount result }
+fn row_with(bits: usize, widths: &'static [usize], amount: usize) -> Row
+    ensures { (result.bits ≡ bits) × (result.widths.now ≡ widths.now) × (result.amount ≡ amount) }
 {
     Row {
-        bits: 4 + (widths[0] + (widths[1] + (widths[2] + (widths[3] + widths[4])))),
-        fields,
+        bits,
         widths,
         amount,
     }
 }
 
-// A new kind is one more row here, and one more case of framed and of values_of, and of graded where it has a grade.
+// A new kind is one more row here, and one more case of framed and of values_of, and of graded where it has a grade. A kind stays a number here: it is
+// what stands on the wire, and what the C host passes.
 fn row_of(kind: u32) -> Row
     ensures { RowPost (row_of kind) result }
 {
     match kind {
-        1 => row_with(3, [32, 20, 4, 0, 0], 8),
-        2 => row_with(1, [32, 0, 0, 0, 0], 0),
-        3 => row_with(4, [32, 5, 4, 3, 0], 4),
-        4 => row_with(2, [32, 5, 0, 0, 0], 0),
-        5 => row_with(2, [32, 20, 0, 0, 0], 0),
-        6 => row_with(4, [32, 20, 2, 4, 0], 8),
-        7 => row_with(4, [32, 20, 2, 5, 0], 8),
-        _ => row_with(0, [0, 0, 0, 0, 0], 0),
+        1 => row_with(60, &[32, 20, 4], 8),
+        2 => row_with(36, &[32], 0),
+        3 => row_with(48, &[32, 5, 4, 3], 4),
+        4 => row_with(41, &[32, 5], 0),
+        5 => row_with(56, &[32, 20], 0),
+        6 => row_with(62, &[32, 20, 2, 4], 8),
+        7 => row_with(63, &[32, 20, 2, 5], 8),
+        _ => row_with(4, &[], 0),
     }
 }
 
@@ -110,36 +108,34 @@ fn graded(kind: u32, values: [u32; 5]) -> bool
     }
 }
 
-// One pair more, after pairs judged by number: 5 before 6. The terms before it are below least.
-fn judge(number: u32, sound: bool, least: u32, term: u32) -> u32
-    ensures { result ≡ judge_next number sound least term }
+// One pair more, after pairs judged so far: Value before Order. The terms before it are below least.
+fn judge(before: Result<(), Refusal>, sound: bool, least: u32, term: u32) -> Result<(), Refusal>
+    ensures { verdict result ≡ judge_next (verdict before) sound least term }
 {
     if !sound {
-        return 5;
+        return Err(Refusal::Value);
     }
-    if number != 0 {
-        return number;
-    }
+    before?;
     if term < least {
-        return 6;
+        return Err(Refusal::Order);
     }
-    0
+    Ok(())
 }
 
-// 3, 4 or 0: whether so many bits take these bytes, and the fill is 0.
-fn misfit(bytes: &[u8], bits: usize) -> u32
+// Whether so many bits take these bytes, and the fill is 0.
+fn misfit(bytes: &[u8], bits: usize) -> Result<(), Refusal>
     requires { bits ≤ 2 ^ 32 }
-    ensures { result ≡ fit_number bytes.now bits }
+    ensures { verdict result ≡ fit_number bytes.now bits }
 {
     let size = (bits + 7) / 8;
     if bytes.len() != size {
-        return 3;
+        return Err(Refusal::Length);
     }
     let fill = wire::take_bits(bytes, bits, size * 8 - bits);
     if fill != 0 {
-        return 4;
+        return Err(Refusal::Fill);
     }
-    0
+    Ok(())
 }
 
 fn high_bits(both: u32, width: usize) -> u32
@@ -157,89 +153,60 @@ fn low_bits(both: u32, width: usize) -> u32
     both % limit
 }
 
-// The m pairs from bit `at`, whose counts or weights have `width` bits.
-fn take_pairs(bytes: &[u8], at: usize, width: usize, m: usize) -> PairList
+// The m pairs from bit `at`, whose counts or weights have `width` bits, where nothing of Value and Order refuses them.
+fn take_pairs(bytes: &[u8], at: usize, width: usize, m: usize) -> Result<PairList, Refusal>
     requires width_bound { at + m * (10 + width) ≤ 8 * length bytes.now }
     requires width_bound_2 { (at + m * (10 + width) ≤ 1024) × (m ≤ most_pairs) × (width ≤ count_width) }
     ensures { PairsPost bytes.now at width m result }
 {
     let mut terms = [0u16; MOST_PAIRS];
     let mut amounts = [0u8; MOST_PAIRS];
-    let mut number = 0;
+    let mut judged = Ok(());
     let mut least = 0;
     let mut next = at;
-    let mut i = 0;
-    while i < m {
+    for i in 0..m {
         let both = wire::take_bits(bytes, next, 10 + width);
         let term = high_bits(both, width);
         let amount = low_bits(both, width);
         terms[i] = term as u16;
         amounts[i] = amount as u8;
-        number = judge(number, 0 < amount, least, term);
+        judged = judge(judged, 0 < amount, least, term);
         least = term + 1;
         next += 10 + width;
-        i += 1;
     }
-    PairList {
-        number,
-        terms,
-        amounts,
-    }
+    judged?;
+    Ok(PairList { terms, amounts })
 }
 
-// 14 comes before the number of the pairs.
-fn grade_first(known: bool, number: u32) -> u32
-    ensures { result ≡ cond known number 14 }
-{
-    if !known {
-        return 14;
-    }
-    number
-}
-
-// The m pairs after a head of so many bits, whose grade is known or not, where nothing of 3, 4, 14, 5 and 6 refuses them.
-fn checked_pairs(bytes: &[u8], head: usize, width: usize, m: usize, known: bool) -> PairList
+// The m pairs after a head of so many bits, whose grade is known or not, where nothing of Length, Fill, Urgency, Value and Order refuses them.
+fn checked_pairs(
+    bytes: &[u8],
+    head: usize,
+    width: usize,
+    m: usize,
+    known: bool,
+) -> Result<PairList, Refusal>
     requires { (head + m * (10 + width) ≤ 1024) × (m ≤ most_pairs) × (width ≤ count_width) }
     ensures { CheckedPost bytes.now head width m known result }
 {
-    let number = misfit(bytes, head + m * (10 + width));
-    if number != 0 {
-        return PairList {
-            number,
-            terms: [0u16; MOST_PAIRS],
-            amounts: [0u8; MOST_PAIRS],
-        };
+    misfit(bytes, head + m * (10 + width))?;
+    if !known {
+        return Err(Refusal::Urgency);
     }
-    let mut p = take_pairs(bytes, head, width, m);
-    p.number = grade_first(known, p.number);
-    p
-}
-
-fn refusal(number: u32) -> Parsed
-    ensures { ReadPost (refused number) result }
-{
-    Parsed {
-        what: Kind::Refused(number),
-        terms: [0u16; MOST_PAIRS],
-        amounts: [0u8; MOST_PAIRS],
-    }
+    take_pairs(bytes, head, width, m)
 }
 
 // The values of fields of these widths, one after the other from bit `at`.
-fn take_fields(bytes: &[u8], at: usize, widths: [usize; 5], fields: usize) -> [u32; 5]
-    requires widths_bound { (at + total (take fields widths) ≤ 8 * length bytes.now) × (at + total (take fields widths) ≤ 1024) }
-    requires fields_bound { (fields ≤ 5) × Narrow (take fields widths) }
-    ensures { result ≡ padded 5 (scan bytes.now at (take fields widths)) }
+fn take_fields(bytes: &[u8], at: usize, widths: &[usize]) -> [u32; 5]
+    requires widths_bound { (at + total widths.now ≤ 8 * length bytes.now) × (at + total widths.now ≤ 1024) }
+    requires fields_bound { (length widths.now ≤ 5) × Narrow widths.now }
+    ensures { result ≡ padded 5 (scan bytes.now at widths.now) }
 {
     let mut values = [0u32; 5];
     let mut next = at;
-    let mut i = 0;
-    while i < fields {
-        let width = widths[i];
-        let value = wire::take_bits(bytes, next, width);
-        values[i] = value;
-        next += width;
-        i += 1;
+    for i in 0..widths.len() {
+        values[i] = wire::take_bits(bytes, next, widths[i]);
+        next += widths[i];
     }
     values
 }
@@ -256,78 +223,74 @@ fn pairs_by(amount: usize, fields: usize, values: [u32; 5]) -> usize
 }
 
 // The frame of a kind with these values and m pairs.
-fn framed(kind: u32, values: [u32; 5], m: usize) -> Kind
+fn framed(kind: u32, values: [u32; 5], m: usize) -> Result<Kind, Refusal>
     requires { get_or values 2 0 < 16 }
     ensures { FramedPost kind values m result }
 {
     let time = values[0];
     match kind {
-        1 => Kind::Message {
+        1 => Ok(Kind::Message {
             form: kind,
             time,
             serial: values[1],
             urgency: 0,
             pairs: m,
-        },
-        2 => Kind::Tick { time },
-        3 => Kind::Register {
+        }),
+        2 => Ok(Kind::Tick { time }),
+        3 => Ok(Kind::Register {
             time,
             number: values[1],
             k: values[2] + 1,
             terms: m,
-        },
-        4 => Kind::Unregister {
+        }),
+        4 => Ok(Kind::Unregister {
             time,
             number: values[1],
-        },
-        5 => Kind::Cancel {
+        }),
+        5 => Ok(Kind::Cancel {
             time,
             serial: values[1],
-        },
-        6 | 7 => Kind::Message {
+        }),
+        6 | 7 => Ok(Kind::Message {
             form: kind,
             time,
             serial: values[1],
             urgency: values[2],
             pairs: m,
-        },
-        _ => Kind::Refused(2),
+        }),
+        _ => Err(Refusal::Kind),
     }
 }
 
 // The fields after the kind, from bit `at` on, by the row of the kind.
-fn read_kind(bytes: &[u8], at: usize, kind: u32) -> Parsed
+fn read_kind(bytes: &[u8], at: usize, kind: u32) -> Result<Parsed, Refusal>
     requires { at ≡ kind_width }
     ensures { ReadPost (shape_of_kind kind bytes.now) result }
 {
     let row = row_of(kind);
-    if row.fields == 0 {
-        return refusal(2);
+    if row.widths.is_empty() {
+        return Err(Refusal::Kind);
     }
     // too short for the number of pairs, and so for any pair
     if bytes.len() < (row.bits + 7) / 8 {
-        return refusal(3);
+        return Err(Refusal::Length);
     }
-    let widths = row.widths;
-    let values = take_fields(bytes, at, widths, row.fields);
-    let m = pairs_by(row.amount, row.fields, values);
+    let values = take_fields(bytes, at, row.widths);
+    let m = pairs_by(row.amount, row.widths.len(), values);
     let known = graded(kind, values);
-    let p = checked_pairs(bytes, row.bits, row.amount, m, known);
-    if p.number != 0 {
-        return refusal(p.number);
-    }
-    let what = framed(kind, values, m);
-    let terms = p.terms;
-    let amounts = p.amounts;
-    Parsed {
+    let pairs = checked_pairs(bytes, row.bits, row.amount, m, known)?;
+    let what = framed(kind, values, m)?;
+    let terms = pairs.terms;
+    let amounts = pairs.amounts;
+    Ok(Parsed {
         what,
         terms,
         amounts,
-    }
+    })
 }
 
 // The fields in order from one reader: the kind, and then those of its row from the bit where the reader stands.
-fn read_fields(bytes: &[u8]) -> Parsed
+fn read_fields(bytes: &[u8]) -> Result<Parsed, Refusal>
     requires { 5 ≤ length bytes.now }
     ensures { ReadPost (shape_of_kind (field bytes.now 0 4) bytes.now) result }
 {
@@ -338,85 +301,57 @@ fn read_fields(bytes: &[u8]) -> Parsed
 }
 
 // What the bytes are: a frame, or the first of the refusals 1 to 4, 14, 5 and 6 that applies.
-pub fn read(bytes: &[u8]) -> Parsed
+pub fn read(bytes: &[u8]) -> Result<Parsed, Refusal>
     ensures { ReadPost (shape bytes.now) result }
 {
     if bytes.len() < 5 {
-        return refusal(1);
+        return Err(Refusal::Short);
     }
     read_fields(bytes)
 }
 
-// What a search asks for: the length of its list, and its terms with their weights; or the number that refuses it, and all else 0.
+// What a search asks for: the length of its list, and its terms with their weights.
 #[derive(Clone, Copy)]
 pub struct Asked {
-    pub number: u32,
     pub k: u32,
     pub n: usize,
     pub terms: [u16; MOST_PAIRS],
     pub weights: [u8; MOST_PAIRS],
 }
 
-fn not_asked(number: u32) -> Asked
-    ensures { AskedPost (refused number) result }
-{
-    Asked {
-        number,
-        k: 0,
-        n: 0,
-        terms: [0u16; MOST_PAIRS],
-        weights: [0u8; MOST_PAIRS],
-    }
-}
-
-// The number that refuses a search whose frame is refused: a malformed frame of another kind is of another kind first. One too short to have a kind
-// keeps its number.
-fn asked_refusal(bytes: &[u8], number: u32) -> u32
-    ensures { result ≡ asked_number bytes.now number }
+// What refuses a search whose frame is refused: a malformed frame of another kind is of another kind first. One too short to have a kind keeps its
+// refusal.
+fn asked_refusal(bytes: &[u8], refusal: Refusal) -> Refusal
+    ensures { number_of result ≡ asked_number bytes.now (number_of refusal) }
 {
     if 5 <= bytes.len() {
         let kind = wire::take_bits(bytes, 0, 4);
         if kind != 3 {
-            return 2;
+            return Refusal::Kind;
         }
     }
-    number
+    refusal
 }
 
 // What the bytes ask for as the frame of a search, which is a registration's; its time and number are ignored.
-pub fn read_asked(bytes: &[u8]) -> Asked
+pub fn read_asked(bytes: &[u8]) -> Result<Asked, Refusal>
     ensures { AskedPost (asked bytes.now) result }
 {
-    let parsed = read(bytes);
-    let what = parsed.what;
-    if let Kind::Refused(number) = what {
-        return not_asked(asked_refusal(bytes, number));
-    }
-    let Kind::Register { k, terms: n, .. } = what else {
-        return not_asked(2);
+    let parsed = match read(bytes) {
+        Ok(parsed) => parsed,
+        Err(refusal) => return Err(asked_refusal(bytes, refusal)),
+    };
+    let Kind::Register { k, terms: n, .. } = parsed.what else {
+        return Err(Refusal::Kind);
     };
     let terms = parsed.terms;
     let weights = parsed.amounts;
-    Asked {
-        number: 0,
+    Ok(Asked {
         k,
         n,
         terms,
         weights,
-    }
-}
-
-// What a writing answers: 0 and the frame's length in bytes, or the refusal and 0.
-#[derive(Clone, Copy)]
-pub struct Written {
-    pub number: u32,
-    pub length: usize,
-}
-
-fn unwritten(number: u32) -> Written
-    ensures { (result.number ≡ number) × (result.length ≡ 0) }
-{
-    Written { number, length: 0 }
+    })
 }
 
 fn sound_pair(term: u32, amount: u32, limit: u32) -> bool
@@ -472,43 +407,39 @@ fn pairs_taken(amount: usize, pairs: usize) -> usize
 }
 
 // Whether each value has no more bits than its field.
-fn fit(widths: [usize; 5], fields: usize, values: [u32; 5]) -> bool
-    requires { (fields ≤ 5) × Narrow (take fields widths) }
-    ensures { result ≡ fitting (take fields widths) (take fields values) }
+fn fit(widths: &[usize], values: [u32; 5]) -> bool
+    requires { (length widths.now ≤ 5) × Narrow widths.now }
+    ensures { result ≡ fitting widths.now values }
 {
-    let mut i = 0;
-    while i < fields {
+    for i in 0..widths.len() {
         if 1u64 << widths[i] <= values[i] as u64 {
             return false;
         }
-        i += 1;
     }
     true
 }
 
-// 5 or 6, or 0, of the first places of both slices as pairs.
-fn judge_pairs(width: usize, pairs: usize, terms: &[u16], amounts: &[u8]) -> u32
+// Whether nothing of Value and Order refuses the first places of both slices as pairs.
+fn judge_pairs(width: usize, pairs: usize, terms: &[u16], amounts: &[u8]) -> Result<(), Refusal>
     requires { width < 32 }
-    ensures { result ≡ pairs_verdict width pairs terms.now amounts.now }
+    ensures { verdict result ≡ pairs_verdict width pairs terms.now amounts.now }
 {
     if terms.len() < pairs {
-        return 5;
+        return Err(Refusal::Value);
     }
     if amounts.len() < pairs {
-        return 5;
+        return Err(Refusal::Value);
     }
     let limit = 1u32 << width;
-    let mut number = 0;
+    let mut judged = Ok(());
     let mut floor = 0;
-    let mut i = 0;
-    while i < pairs {
+    for i in 0..pairs {
         let term = terms[i] as u32;
         let sound = sound_pair(term, amounts[i] as u32, limit);
-        number = judge(number, sound, floor, term);
+        judged = judge(judged, sound, floor, term);
         floor = term + 1;
-        i += 1;
     }
-    number
+    judged
 }
 
 // The first places of both slices as pairs, from bit `at`.
@@ -519,12 +450,10 @@ fn put_pairs(out: &mut [u8], at: usize, width: usize, pairs: usize, terms: &[u16
     ensures { unpack out.new ≡ laid out.old at (pair_bits width pairs terms.now amounts.now) }
 {
     let mut next = at;
-    let mut i = 0;
-    while i < pairs {
+    for i in 0..pairs {
         wire::put_bits(out, next, 10, terms[i] as u32);
         wire::put_bits(out, next + 10, width, amounts[i] as u32);
         next += 10 + width;
-        i += 1;
     }
 }
 
@@ -539,46 +468,42 @@ fn put_fill(out: &mut [u8], bits: usize) -> usize
 }
 
 // Values into fields of these widths, one after the other from bit `at`.
-fn put_fields(out: &mut [u8], at: usize, widths: [usize; 5], fields: usize, values: [u32; 5])
-    requires widths_bound { (at + total (take fields widths) ≤ 8 * length out.old) × (at + total (take fields widths) ≤ 1024) }
-    requires fields_bound { (fields ≤ 5) × Narrow (take fields widths) }
-    ensures { unpack out.new ≡ laid out.old at (spell (take fields widths) (take fields values)) }
+fn put_fields(out: &mut [u8], at: usize, widths: &[usize], values: [u32; 5])
+    requires widths_bound { (at + total widths.now ≤ 8 * length out.old) × (at + total widths.now ≤ 1024) }
+    requires fields_bound { (length widths.now ≤ 5) × Narrow widths.now }
+    ensures { unpack out.new ≡ laid out.old at (spell widths.now (take (length widths.now) values)) }
 {
     let mut next = at;
-    let mut i = 0;
-    while i < fields {
-        let width = widths[i];
-        wire::put_bits(out, next, width, values[i]);
-        next += width;
-        i += 1;
+    for i in 0..widths.len() {
+        wire::put_bits(out, next, widths[i], values[i]);
+        next += widths[i];
     }
 }
 
-// The kind, the values of its fields, the pairs and the fill; the length in bytes. The fields before the pairs have `bits` bits.
+// The kind, the values of its fields by its row, the pairs and the fill; the length in bytes.
 fn put(
     out: &mut [u8],
     kind: u32,
-    bits: usize,
-    widths: [usize; 5],
-    fields: usize,
+    row: Row,
     values: [u32; 5],
-    amount: usize,
     pairs: usize,
     terms: &[u16],
     amounts: &[u8],
 ) -> usize
-    requires bits_value { (bits ≡ total (kind_width ∷ take fields widths)) × (fields ≤ 5) × Narrow (take fields widths) }
-    requires amount_bound { (amount ≤ 32) × (pairs ≤ length terms.now) × (pairs ≤ length amounts.now) }
-    requires amount_bound_2 { (bits + pairs * (10 + amount) ≤ 1024) × (bytes_for (bits + pairs * (10 + amount)) ≤ length out.old) }
-    ensures { PutPost (written (kind_width ∷ take fields widths) amount (kind ∷ take fields values) (side_by_side pairs terms.now amounts.now)) out.old out.new result }
+    requires bits_value { (row.bits ≡ total (kind_width ∷ row.widths.now)) × (length row.widths.now ≤ 5) × Narrow row.widths.now }
+    requires amount_bound { (row.amount ≤ 32) × (pairs ≤ length terms.now) × (pairs ≤ length amounts.now) }
+    requires amount_bound_2 { (row.bits + pairs * (10 + row.amount) ≤ 1024) × (bytes_for (row.bits + pairs * (10 + row.amount)) ≤ length out.old) }
+    ensures { PutPost (written (kind_width ∷ row.widths.now) row.amount (kind ∷ take (length row.widths.now) values)
+        (side_by_side pairs terms.now amounts.now)) out.old out.new result }
 {
     wire::put_bits(out, 0, 4, kind);
-    put_fields(out, 4, widths, fields, values);
-    put_pairs(out, bits, amount, pairs, terms, amounts);
-    put_fill(out, bits + pairs * (10 + amount))
+    put_fields(out, 4, row.widths, values);
+    put_pairs(out, row.bits, row.amount, pairs, terms, amounts);
+    put_fill(out, row.bits + pairs * (10 + row.amount))
 }
 
-// The bytes of the frame with these fields, into out. Only the fields of the kind are looked at; the pairs are the first places of both slices.
+// The bytes of the frame with these fields, into out; their length. Only the fields of the kind are looked at; the pairs are the first places of both
+// slices.
 pub fn write(
     out: &mut [u8],
     kind: u32,
@@ -590,31 +515,24 @@ pub fn write(
     pairs: usize,
     terms: &[u16],
     amounts: &[u8],
-) -> Written
-    ensures { WritePost (from_fields (fields kind time serial urgency number k pairs terms.now amounts.now)) out.old out.new result }
+) -> Result<usize, Refusal>
+    ensures { WritePost (from_fields (fields kind time serial urgency number k pairs terms.now amounts.now)) out.old out.new (in_numbers result) }
 {
     let row = row_of(kind);
-    if row.fields == 0 {
-        return unwritten(2);
+    if row.widths.is_empty() {
+        return Err(Refusal::Kind);
     }
-    let widths = row.widths;
     let values = values_of(kind, time, serial, urgency, number, k, pairs);
     if !graded(kind, values) {
-        return unwritten(14);
+        return Err(Refusal::Urgency);
     }
-    if !fit(widths, row.fields, values) {
-        return unwritten(5);
+    if !fit(row.widths, values) {
+        return Err(Refusal::Value);
     }
     let m = pairs_taken(row.amount, pairs);
-    let judged = judge_pairs(row.amount, m, terms, amounts);
-    if judged != 0 {
-        return unwritten(judged);
-    }
+    judge_pairs(row.amount, m, terms, amounts)?;
     if out.len() < (row.bits + m * (10 + row.amount) + 7) / 8 {
-        return unwritten(12);
+        return Err(Refusal::Memory);
     }
-    let length = put(
-        out, kind, row.bits, widths, row.fields, values, row.amount, m, terms, amounts,
-    );
-    Written { number: 0, length }
+    Ok(put(out, kind, row, values, m, terms, amounts))
 }

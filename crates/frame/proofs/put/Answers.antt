@@ -1,6 +1,6 @@
 -- `put` meets its contract. Assumes nothing.
 use native.Mathlib.Omega.{arith}
-use mathlib.Core.Path.{◌≡◌, ap, sym, ◌∙◌}
+use mathlib.Core.Path.{◌≡◌, ap, sym}
 use mathlib.Core.List.{◌∷◌}
 use Prim.Native.Nat.{suc}
 use lib.ListN.{length, take}
@@ -21,16 +21,15 @@ put_fields-requires c = record { widths_bound = (omega arith, omega arith); fiel
 
 pub returns : goal.returns
 returns c =
-    let same_places : let a = c.args in length (take a.fields a.widths) ≡ length (take a.fields a.values) =
-    let a = c.args in length-take-le a.fields a.widths (omega arith) ∙ sym (length-take-le a.fields a.values (omega arith)) in
     let a = c.args in
     let s = a.out.now in
-    let ws = take a.fields a.widths in
-    let vs = take a.fields a.values in
+    let ws = a.row.widths.now in
+    let vs = take (length ws) a.values in
     let t₂ = c.put_fields.new.out in
-    let e : a.bits ≡ total (kind_width ∷ ws) = c.requires.bits_value.0 in
+    let same : length ws ≡ length vs = sym (length-take-le (length ws) a.values (omega arith)) in
+    let e : a.row.bits ≡ total (kind_width ∷ ws) = c.requires.bits_value.0 in
     rw (c.put_fill.ensures.0, e)
-    (puts (kind_width ∷ ws) (a.kind ∷ vs) a.terms.now a.amounts.now a.amount a.pairs (ap suc same_places) c.requires.amount_bound.1 c.requires.amount_bound.2
+    (puts (kind_width ∷ ws) (a.kind ∷ vs) a.terms.now a.amounts.now a.row.amount a.pairs (ap suc same) c.requires.amount_bound.1 c.requires.amount_bound.2
     s t₂ c.put_pairs.new.out c.put_fill.new.out (rw e at c.requires.amount_bound_2.1) (omega arith) (λ i. (c.slice_known-1.given i).fits) (λ i. (c.slice_known-5-1.given i).fits)
     (head_laid s c.put_bits.new.s t₂ ws vs a.kind c.put_bits.ensures c.put_fields.ensures)
     (rw e at c.put_pairs.ensures) (rw e at c.put_fill.ensures.1))

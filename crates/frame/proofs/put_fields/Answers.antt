@@ -1,47 +1,38 @@
 -- `put_fields` meets its contract. Assumes nothing.
-use Prim.Native.Nat.{◌+◌, ◌*◌, ◌≤◌}
 use native.Mathlib.Omega.{arith}
-use mathlib.Core.Path.{◌≡◌, refl}
-use lib.ListN.{length, get_or}
+use mathlib.Core.Path.{◌≡◌}
+use lib.ListN.{length}
+use Rattle.std.proofs.lemmas.List.{take_all}
 use Rattle.wire.specs.Field.{total, spell}
 use Rattle.frame.proofs.LaidLaws.{laid_none}
-use Rattle.frame.proofs.HeadLaws.{narrow_at, total_turn, total_more, fields_turn}
+use Rattle.frame.proofs.HeadLaws.{field_room, total_more, fields_turn}
 use Rattle.frame.proofs.put_fields.Goals as goal
-
--- a turn's field is narrow and lies in the output
-fits : (c : goal.After-put_bits-arg-1) → let a = c.args in
-    let w = get_or a.widths c.loop-i.i 0 in let e = c.loop-i.next + w in (w ≤ 32) × (e ≤ 8 * length a.out.now) × (e ≤ 1024)
-fits c =
-    let a = c.args in
-    let i = c.loop-i.i in
-    let t = total_turn a.widths a.fields i (omega arith) (omega arith) in
-    (narrow_at a.widths a.fields i c.requires.fields_bound.1 (omega arith), omega arith, omega arith)
 
 pub loop-i-init : goal.loop-i-init
 unfolding total spell
-loop-i-init c =
-    let a = c.args in (omega arith, omega arith, refl, laid_none a.out.now a.at)
+loop-i-init c = (omega arith, laid_none c.args.out.now c.args.at)
 
 pub put_bits-requires : goal.put_bits-requires
 put_bits-requires c =
-    let h = (fits c) in omega arith
+    let l = c.loop-i in
+    let room = field_room c.args.widths.now c.args.at l.next l.i c.requires.fields_bound.1 (omega arith) l.invariant.0 in
+    omega arith
 
 pub overflow_add-next : goal.overflow_add-next
 overflow_add-next c =
-    let h = (fits c.before.before.before.before) in omega arith
+    let l = c.loop-i in
+    let room = field_room c.args.widths.now c.args.at l.next l.i c.requires.fields_bound.1 (omega arith) l.invariant.0 in
+    omega arith
 
 pub loop-i-preserved : goal.loop-i-preserved
 loop-i-preserved c =
     let l = c.loop-i in
     let a = c.args in (
-      omega arith,
-      omega (arith, total_more a.widths l.i (omega arith)),
-      omega arith,
-      fields_turn a.out.now l.out _ a.widths a.values a.at l.i l.next (omega arith) (omega arith) (omega arith) l.invariant.1 l.invariant.3 c.put_bits.ensures,
+      omega (arith, total_more a.widths.now l.i (omega arith)),
+      fields_turn a.out.now l.out _ a.widths.now a.values a.at l.i l.next (omega arith) (omega arith) (omega arith) l.invariant.0 l.invariant.1 c.put_bits.ensures,
     )
 
 pub returns : goal.returns
 returns c =
-    let l = c.loop-i in
-    let e : l.i ≡ c.args.fields = omega arith in
-    rw (← e) l.invariant.3
+    let i : c.loop-i.i ≡ length c.args.widths.now = omega arith in
+    rw (take_all c.loop-i.i c.args.widths.now (omega arith), i) at c.loop-i.invariant.1

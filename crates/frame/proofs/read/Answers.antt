@@ -7,7 +7,7 @@ use Rattle.frame.proofs.read.Goals as goal
 
 pub returns-then-bytes-lt5 : goal.returns-then-bytes-lt5
 unfolding shape
-returns-then-bytes-lt5 c = rw (lt-ltb (length c.args.bytes.now) 5 (omega arith)) c.refusal.ensures
+returns-then-bytes-lt5 c = rw (lt-ltb (length c.args.bytes.now) 5 (omega arith))
 
 pub returns : goal.returns
 unfolding shape

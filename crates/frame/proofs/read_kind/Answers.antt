@@ -1,142 +1,66 @@
 -- `read_kind` meets its contract. Assumes nothing.
-use Prim.Native.Nat.{◌≤◌, ◌<◌}
-use lib.ListN.{length}
-use lib.Dec.{lit<}
 use native.Mathlib.Omega.{arith}
-use mathlib.Core.Path.{◌≡◌, sym, ◌∙◌}
+use lib.ListN.{length-map}
 use Rattle.wire.specs.Field.{total}
-use Rattle.paper.specs.Frame.{most_pairs, kind_width, row_of, widths, values_at, pairs_by, grades_known, frame_of, pairs_at}
-use Rattle.paper.proofs.FrameLaws.{length_pairs}
-use Rattle.frame.specs.Read.{CheckedPost, padded}
-use Rattle.frame.proofs.ReadLaws.{unknown, by_row, grade_known_lem, read_refused, read_made, read_short, read_framed}
-use Rattle.frame.proofs.HeadLaws.{small, get_d_padded, frame_padded, grades_padded, pairs_read_lem, pairs_light}
+use Rattle.paper.specs.Frame.{row_of, width}
+use Rattle.frame.proofs.HeadLaws.{small}
+use Rattle.frame.proofs.ReadLaws.{Headed, passed_on, not_empty, unknown_row, kind_short, few, third, kind_refused, kind_unframed, kind_framed}
+use Rattle.frame.proofs.read_kind.Goals.{After-graded-known}
 use Rattle.frame.proofs.read_kind.Goals as goal
 
-pub returns-then-row-eq0 : goal.returns-then-row-eq0
-returns-then-row-eq0 c =
-    let a = c.args in
-    rw (unknown a.bytes.now a.kind (omega arith)) c.refusal.ensures
+headed : (c : After-graded-known) → Headed c.args.bytes.now c.args.kind c.row_of-row.result c.take_fields-values.result c.pairs_by-m.result
+headed c = record {
+  row = c.row_of-row.ensures;
+  has = not_empty c.row_of-row.result.widths.now c.if-is_empty.ensures;
+  read = rw (← c.requires) c.take_fields-values.ensures;
+  said = c.pairs_by-m.ensures;
+}
+
+pub returns-then-is_empty : goal.returns-then-is_empty
+returns-then-is_empty c = unknown_row c.args.bytes.now c.args.kind c.row_of-row.result c.row_of-row.ensures c.if-is_empty.ensures
 
 pub overflow_add-row : goal.overflow_add-row
-overflow_add-row c =
-    let a = c.args in
-    let b = small a.bytes.now a.kind in
-    omega arith
+overflow_add-row c = let b = small c.args.bytes.now c.args.kind in omega arith
 
 pub returns-then-bytes-row : goal.returns-then-bytes-row
 returns-then-bytes-row c =
-    let known : 0 < length (row_of c.args.kind).head = omega arith in
     let a = c.args in
-    let s = a.bytes.now in
-    let row = row_of a.kind in
-    rw (by_row s a.kind known)
-    (read_short s (widths row) row.amount (pairs_by row (values_at s row)) (grades_known row.head (values_at s row)) (frame_of a.kind (values_at s row)) _ (λ e. omega arith) c.refusal-then-bytes-row.ensures)
+    let r = c.row_of-row.result in
+    kind_short a.bytes.now a.kind r c.row_of-row.ensures (not_empty r.widths.now c.if-is_empty.ensures) (omega arith)
 
 pub take_fields-values-requires : goal.take_fields-values-requires
 unfolding total
 take_fields-values-requires c =
-    let a = c.args in
-    let b = small a.bytes.now a.kind in
+    let b = small c.args.bytes.now c.args.kind in
+    let n = length-map (row_of c.args.kind).head width in
     rw c.row_of-row.ensures.widths (record { widths_bound = (omega arith, omega arith); fields_bound = (omega arith, b.narrow) })
 
 pub pairs_by-m-requires : goal.pairs_by-m-requires
 pairs_by-m-requires c =
-    let a = c.args in
-    let b = small a.bytes.now a.kind in
-    omega arith
+    let b = small c.args.bytes.now c.args.kind in
+    let n = length-map (row_of c.args.kind).head width in
+    (not_empty c.row_of-row.result.widths.now c.if-is_empty.ensures, rw c.row_of-row.ensures.widths (omega arith))
 
-pub checked_pairs-p-requires : goal.checked_pairs-p-requires
-checked_pairs-p-requires c =
-    let read_as : let a = c.args in
-    c.take_fields-values.result ≡ padded 5 (values_at a.bytes.now (row_of a.kind)) =
-    let e : c.args.at ≡ kind_width = omega arith in
-    c.take_fields-values.ensures ∙ rw (c.row_of-row.ensures.widths, e) in
-    let pairs_said : let a = c.args in
-    c.pairs_by-m.result ≡ pairs_by (row_of a.kind) (values_at a.bytes.now (row_of a.kind)) =
-    let a = c.args in
-    pairs_read_lem a.bytes.now a.kind _ _ _ c.take_fields-values.result c.row_of-row.ensures.fields (omega arith) c.row_of-row.ensures.amount
-    read_as c.pairs_by-m.ensures in
-    let a = c.args in
-    let b = small a.bytes.now a.kind in
-    let m : c.pairs_by-m.result ≤ most_pairs = rw pairs_said b.few in
-    let w : c.row_of-row.result.amount ≤ 8 = rw c.row_of-row.ensures.amount b.light in
-    let h = pairs_light c.pairs_by-m.result c.row_of-row.result.amount m w in
-    omega arith
+pub checked_pairs-requires : goal.checked_pairs-requires
+checked_pairs-requires c = let h = few (headed (goal.at.checked_pairs-requires c).After-graded-known) in omega arith
 
-pub returns-then-p-ne0 : goal.returns-then-p-ne0
-returns-then-p-ne0 c =
-    let known : 0 < length (row_of c.args.kind).head = omega arith in
-    let read_as : let a = c.args in
-    c.take_fields-values.result ≡ padded 5 (values_at a.bytes.now (row_of a.kind)) =
-    let e : c.args.at ≡ kind_width = omega arith in
-    c.take_fields-values.ensures ∙ rw (c.row_of-row.ensures.widths, e) in
-    let pairs_said : let a = c.args in
-    c.pairs_by-m.result ≡ pairs_by (row_of a.kind) (values_at a.bytes.now (row_of a.kind)) =
-    let a = c.args in
-    pairs_read_lem a.bytes.now a.kind _ _ _ c.take_fields-values.result c.row_of-row.ensures.fields (omega arith) c.row_of-row.ensures.amount
-    read_as c.pairs_by-m.ensures in
-    let graded_as : let a = c.args in
-    c.graded-known.result ≡ grades_known (row_of a.kind).head (values_at a.bytes.now (row_of a.kind)) =
-    let a = c.args in
-    let row = row_of a.kind in
-    c.graded-known.ensures ∙ rw read_as (grades_padded row.head 5 (values_at a.bytes.now row) (small a.bytes.now a.kind).places) in
-    let checked : let a = c.args in
-    let row = row_of a.kind in
-    let vs = values_at a.bytes.now row in
-    CheckedPost a.bytes.now (total (widths row)) row.amount (pairs_by row vs) (grades_known row.head vs) c.checked_pairs-p.result =
-    rw (c.row_of-row.ensures.bits, c.row_of-row.ensures.amount, pairs_said, graded_as) at c.checked_pairs-p.ensures in
-    let a = c.args in
-    let s = a.bytes.now in
-    let row = row_of a.kind in
-    let vs = values_at s row in
-    rw (by_row s a.kind known)
-    (read_refused s (widths row) row.amount (pairs_by row vs) (grades_known row.head vs) (frame_of a.kind vs) c.checked_pairs-p.result checked _
-    (λ z. omega arith) c.refusal-then-p-ne0.ensures)
+pub returns-in_err-pairs : goal.returns-in_err-pairs
+returns-in_err-pairs c =
+    let h = headed (goal.at.returns-in_err-pairs c).After-graded-known in
+    let e = c.in_err-pairs.field-0.0 in
+    rw (passed_on _ e c.from_residual.ensures.1) (kind_refused h c.graded-known.ensures e c.in_err-pairs.ensures)
 
-pub framed-what-requires : goal.framed-what-requires
-framed-what-requires c =
-    let read_as : let a = c.args in
-    c.take_fields-values.result ≡ padded 5 (values_at a.bytes.now (row_of a.kind)) =
-    let e : c.args.at ≡ kind_width = omega arith in
-    c.take_fields-values.ensures ∙ rw (c.row_of-row.ensures.widths, e) in
-    let a = c.args in
-    let vs = values_at a.bytes.now (row_of a.kind) in
-    rw (read_as, get_d_padded 5 vs 2 (lit< tt)) (small a.bytes.now a.kind).third
+pub framed-requires : goal.framed-requires
+framed-requires c = third (headed (goal.at.framed-requires c).After-graded-known)
+
+pub returns-in_err-what : goal.returns-in_err-what
+returns-in_err-what c =
+    let h = headed (goal.at.returns-in_err-what c).After-graded-known in
+    let e = c.in_err-what.field-0.0 in
+    rw (passed_on _ e c.from_residual-in_err-what.ensures.1)
+    (kind_unframed h c.graded-known.ensures c.in_ok-pairs.pairs c.in_ok-pairs.ensures e c.in_err-what.ensures)
 
 pub returns : goal.returns
 returns c =
-    let known : 0 < length (row_of c.args.kind).head = omega arith in
-    let read_as : let a = c.args in
-    c.take_fields-values.result ≡ padded 5 (values_at a.bytes.now (row_of a.kind)) =
-    let e : c.args.at ≡ kind_width = omega arith in
-    c.take_fields-values.ensures ∙ rw (c.row_of-row.ensures.widths, e) in
-    let pairs_said : let a = c.args in
-    c.pairs_by-m.result ≡ pairs_by (row_of a.kind) (values_at a.bytes.now (row_of a.kind)) =
-    let a = c.args in
-    pairs_read_lem a.bytes.now a.kind _ _ _ c.take_fields-values.result c.row_of-row.ensures.fields (omega arith) c.row_of-row.ensures.amount
-    read_as c.pairs_by-m.ensures in
-    let graded_as : let a = c.args in
-    c.graded-known.result ≡ grades_known (row_of a.kind).head (values_at a.bytes.now (row_of a.kind)) =
-    let a = c.args in
-    let row = row_of a.kind in
-    c.graded-known.ensures ∙ rw read_as (grades_padded row.head 5 (values_at a.bytes.now row) (small a.bytes.now a.kind).places) in
-    let checked : let a = c.args in
-    let row = row_of a.kind in
-    let vs = values_at a.bytes.now row in
-    CheckedPost a.bytes.now (total (widths row)) row.amount (pairs_by row vs) (grades_known row.head vs) c.checked_pairs-p.result =
-    rw (c.row_of-row.ensures.bits, c.row_of-row.ensures.amount, pairs_said, graded_as) at c.checked_pairs-p.ensures in
-    let a = c.args in
-    let s = a.bytes.now in
-    let row = row_of a.kind in
-    let vs = values_at s row in
-    let m = pairs_by row vs in
-    let at = total (widths row) in
-    let ps = pairs_at s at row.amount m in
-    let post = checked in
-    let z : c.checked_pairs-p.result.number ≡ 0 = omega arith in
-    let has = known in
-    let g = grade_known_lem s (widths row) row.amount m (grades_known row.head vs) (sym post.number ∙ z) in
-    let e = c.framed-what.ensures ps (sym c.graded-known.ensures ∙ graded_as ∙ g) (pairs_said ∙ sym (length_pairs s at row.amount m)) in
-    rw (by_row s a.kind has)
-    (read_made s (widths row) row.amount m (grades_known row.head vs) (frame_of a.kind vs) c.checked_pairs-p.result post _ z
-    (read_framed s vs at a.kind _ has (rw (read_as, frame_padded a.kind vs ps) at e) (post.terms z) (post.amounts z)))
+    let h = headed (goal.at.returns c).After-graded-known in
+    kind_framed h c.graded-known.ensures c.in_ok-pairs.pairs c.in_ok-pairs.ensures c.in_ok-what.what c.in_ok-what.ensures

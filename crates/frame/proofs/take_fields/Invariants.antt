@@ -1,5 +1,5 @@
 -- `take_fields`'s loops. Assumes nothing.
-use Prim.Native.Nat.{◌+◌, ◌-◌, ◌≤◌}
+use Prim.Native.Nat.{◌+◌}
 use mathlib.Core.Path.{◌≡◌}
 use lib.ListN.{take}
 use Rattle.wire.specs.Field.{total, scan}
@@ -7,7 +7,4 @@ use Rattle.frame.specs.Read.{padded}
 use Rattle.frame.proofs.take_fields.Given as goal
 
 abbrev pub invariant-loop-i : goal.invariant-loop-i
-invariant-loop-i l = (l.i ≤ l.fields) × (l.next ≡ l.at + total (take l.i l.widths)) × (l.values ≡ padded 5 (scan l.bytes l.at (take l.i l.widths)))
-
-abbrev pub decreases-loop-i : goal.decreases-loop-i
-decreases-loop-i l = l.fields - l.i
+invariant-loop-i l = (l.next ≡ l.at + total (take l.i l.widths)) × (l.values ≡ padded 5 (scan l.bytes l.at (take l.i l.widths)))
