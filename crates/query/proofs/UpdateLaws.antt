@@ -27,7 +27,8 @@ module _ {w : List ℕ} {q : ℕ} {m : Move} {coming going : List ℕ} {touch : 
         (a, stays_right change held (sym a));
   }
 
-  module _ (e : (touch.comes || touch.goes) ≡ true) {fs : List ℕ} {least : ℕ} (flags_are : MovedFlags w q m touch.comes fs) (least-is : Least w q least) {w' : List ℕ} where
+  module _ (e : (touch.comes || touch.goes) ≡ true) {fs : List ℕ} {least : ℕ} (flags_are : MovedFlags w q m touch.comes fs)
+      (least-is : Least w q least) {w' : List ℕ} where
     pub changes : Changed w q m touch least fs w' → Updated w q m coming going true w'
     changes changed = record {
       keeps = changed.keeps;

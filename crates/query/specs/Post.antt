@@ -1,5 +1,6 @@
 -- What each function over a record ensures. Assumes nothing.
-use Rattle.std.specs.Prelude.{ℕ, ◌+◌, ◌*◌, ◌/◌, ◌^◌, ◌≤◌, ◌<◌, ◌≡◌, Bool, true, false, cond, ◌&&◌, ◌||◌, List, [], ◌∷◌, ◌++◌, map, length, get_or, take, drop, eqb, leb, ltb}
+use Rattle.std.specs.Prelude.{ℕ, ◌+◌, ◌*◌, ◌/◌, ◌^◌, ◌≤◌, ◌<◌, ◌≡◌, Bool, true, false, cond, ◌&&◌, ◌||◌, eqb, leb, ltb}
+use Rattle.std.specs.Prelude.{List, [], ◌∷◌, ◌++◌, map, length, get_or, take, drop}
 use Rattle.paper.specs.Frame.{most_terms, most_listed, serial_width, Pair}
 use Rattle.paper.specs.Impact.{top, score}
 use Rattle.paper.specs.Log.{has_serial}
@@ -95,7 +96,8 @@ pub record Over (w : List ℕ) (first count : ℕ) (ms : List Message) : Type 0 
 
 -- What is needed of the list and the thresholds that settling ends with: the list is the ranking, the thresholds are safe for it, and whoever
 -- exceeds one of them is flagged.
-pub record Ready (w : List ℕ) (q first count : ℕ) (ms : List Message) (query : Rank.Query) (fs : List ℕ) (r : Query) (hs : List ℕ) (list : Ranked) : Type 0 where
+pub record Ready (w : List ℕ) (q first count : ℕ) (ms : List Message) (query : Rank.Query) (fs : List ℕ) (r : Query) (hs : List ℕ)
+    (list : Ranked) : Type 0 where
   pub over : Over w first count ms
   pub terms : Terms query
   pub says : Says w q query
@@ -117,8 +119,9 @@ pub record Shown (w : List ℕ) (first count : ℕ) (fs : List ℕ) (ms : List M
 -- are those flagged, all or those that have one of the query's terms.
 pub record Finished (w : List ℕ) (q : ℕ) (js rows : List ℕ) (r : Query) (hs' : List ℕ) (list : Ranked) (w' : List ℕ) : Type 0 where
   pub keeps : Keeps (listed_in q) (record_at q + record_words) w w'
-  pub right : (first count : ℕ) (fs hs : List ℕ) (ms : List Message) (query : Rank.Query) → first < slots → Having w r (select (flag_of fs) (ring first count)) js
-      → Rows w js r rows → length hs ≡ most_terms → Lifted r hs list hs' → Ready w q first count ms query fs r hs list → Holds w' q first count ms query
+  pub right : (first count : ℕ) (fs hs : List ℕ) (ms : List Message) (query : Rank.Query) → first < slots
+      → Having w r (select (flag_of fs) (ring first count)) js → Rows w js r rows → length hs ≡ most_terms → Lifted r hs list hs'
+      → Ready w q first count ms query fs r hs list → Holds w' q first count ms query
 
 -- the same where the flagged messages have yet to be looked at
 pub record SiftedFrom (w : List ℕ) (q first count : ℕ) (fs : List ℕ) (r : Query) (hs' : List ℕ) (list : Ranked) (w' : List ℕ) : Type 0 where
@@ -209,7 +212,9 @@ pub record WithNewest (w : List ℕ) (newest came k least : ℕ) (l r : Ranked) 
   pub tidy : Tidy l → Tidy r
   pub list_is : l.count ≤ k
       → keyed_of r
-      ≡ cond (ltb newest slots && leb least (key_in w newest came)) (grown k (keyed_with (slot w newest).serial (key_in w newest came)) (keyed_of l)) (keyed_of l)
+      ≡ cond (ltb newest slots && leb least (key_in w newest came))
+            (grown k (keyed_with (slot w newest).serial (key_in w newest came)) (keyed_of l))
+            (keyed_of l)
 
 -- A change of the window from n slots from slot o on, as memory was in w₀, to what the move says, as it is in w: `aa` were in force, `ga` go, `sa` stay,
 -- `ca` come.

@@ -95,6 +95,7 @@ pub struct Line {
 }
 
 // The entry at place i of the list that the record holds.
+#[tactic(auto, using(crate::proofs::PlaceLaws::keys_most))]
 pub fn entry(state: &State, q: usize, i: usize) -> Line
     requires { (q < numbers) × (i < length (keys (words state.now) q)) }
     ensures { line_with result.serial result.score ≡ listed_at (words state.now) q i }

@@ -3,7 +3,7 @@ use Prim.Native.Nat.{ℕ}
 use mathlib.Core.Path.{◌≡◌, refl, sym, ap₂, ◌∙◌}
 use mathlib.Core.Bool.{Bool, true, false, not, ◌&&◌, false≢true}
 use lib.Dec.{eqb}
-use borrow.Author.Rules.{rules, length_unmapped}
+use borrow.Author.Rules.{rules}
 use borrow.Author.Tests.{eqb-true, eq-eqb}
 use Rattle.query.proofs.SettleLaws.{Sixteen}
 use Rattle.query.proofs.ChangeLaws.{changed_settled, changed_in_place}
@@ -22,9 +22,7 @@ returns-then-list-k c = changed_settled c.load_query-query.ensures c.load_thresh
 
 pub returns-else-list-k : goal.returns-else-list-k
 returns-else-list-k c =
-    let sixteen : Sixteen c.load_list-list.result =
-    record { most = c.load_list-list.ensures.count_most; serials = search (rules, length_unmapped); keys = search (rules, length_unmapped) } in
-    let sixteen_next : Sixteen c.with_newest-next.result =
-    record { most = c.with_newest-next.ensures.within; serials = search (rules, length_unmapped); keys = search (rules, length_unmapped) } in
+    let sixteen : Sixteen c.load_list-list.result = search rules in
+    let sixteen_next : Sixteen c.with_newest-next.result = search rules in
     changed_in_place c.load_query-query.ensures c.load_thresholds-thresholds.ensures c.load_list-list.ensures sixteen sixteen_next
     c.without_gone-rest.ensures c.with_newest-next.ensures (kept_full c.if-list-k.false) c.retune.ensures

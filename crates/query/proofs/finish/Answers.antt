@@ -2,15 +2,14 @@
 use mathlib.Core.Path.{◌≡◌}
 use lib.ListN.{length}
 use native.Mathlib.Omega.{arith}
-use borrow.Author.Rules.{rules, length_unmapped}
+use borrow.Author.Rules.{rules}
 use Rattle.query.proofs.SettleLaws.{Sixteen, sifted_exact, finished}
 use Rattle.query.proofs.finish.Goals as goal
 
 pub returns : goal.returns
 returns c =
-    let sixteen : Sixteen c.args.list =
-    record { most = omega arith; serials = search (rules, length_unmapped); keys = search (rules, length_unmapped) } in
-    let eight : length c.args.raised ≡ 8 = search (rules, length_unmapped) in
+    let sixteen : Sixteen c.args.list = search rules in
+    let eight : length c.args.raised ≡ 8 = search rules in
     let range = c.requires.in_range in
     record {
       keeps = c.store.ensures.keeps;

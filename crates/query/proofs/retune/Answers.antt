@@ -3,16 +3,15 @@ use mathlib.Core.Path.{◌≡◌, sym, subst, ◌∙◌}
 use native.Mathlib.Omega.{arith}
 use lib.ListN.{length}
 use Rattle.std.specs.Cmp.Lexicographic.{same_text}
-use borrow.Author.Rules.{rules, length_unmapped}
+use borrow.Author.Rules.{rules}
 use Rattle.query.specs.Post.{Lifted}
 use Rattle.query.proofs.SettleLaws.{Sixteen, finished}
 use Rattle.query.proofs.retune.Goals as goal
 
 pub returns-then-eq : goal.returns-then-eq
 returns-then-eq c =
-    let sixteen : Sixteen c.args.list =
-    record { most = omega arith; serials = search (rules, length_unmapped); keys = search (rules, length_unmapped) } in
-    let eight : length c.args.thresholds ≡ 8 = search (rules, length_unmapped) in
+    let sixteen : Sixteen c.args.list = search rules in
+    let eight : length c.args.thresholds ≡ 8 = search rules in
     let a = c.args in
     let e : c.raised-next.result ≡ a.thresholds = same_text c.raised-next.result a.thresholds (sym c.if-eq.true ∙ c.eq.ensures) in
     record {
@@ -24,6 +23,6 @@ returns-then-eq c =
 
 pub returns-else-eq : goal.returns-else-eq
 returns-else-eq c =
-    let eight : length c.args.thresholds ≡ 8 = search (rules, length_unmapped) in
+    let eight : length c.args.thresholds ≡ 8 = search rules in
     let f = c.sift.ensures in
     record { keeps = f.keeps; right = λ ms query ready exact. f.right c.args.thresholds ms query eight c.raised-next.ensures ready }

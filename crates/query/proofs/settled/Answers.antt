@@ -1,10 +1,10 @@
 -- `settled` meets its contract. Assumes nothing.
-use Prim.Native.Nat.{◌+◌}
+use Prim.Native.Nat.{◌+◌, ◌≤◌}
 use native.Mathlib.Omega.{arith}
 use mathlib.Core.Path.{◌≡◌, refl, sym, ◌∙◌}
 use mathlib.Core.Bool.{true≢false, false≢true}
 use lib.ListN.{length}
-use borrow.Author.Rules.{rules, length_unmapped}
+use borrow.Author.Rules.{rules}
 use Rattle.paper.specs.Layout.{record_at, record_words, listed_in}
 use Rattle.memory.specs.Words.{words}
 use Rattle.memory.proofs.KeepsLaws.{keeps_refl}
@@ -14,7 +14,7 @@ use Rattle.query.proofs.SettleLaws.{Sixteen, ready_shown}
 use Rattle.query.proofs.settled.Goals as goal
 
 pub look-requires-clause-rows_len : goal.look-requires-clause-rows_len
-look-requires-clause-rows_len c = (search rules, λ i. zero_at 2313 i)
+look-requires-clause-rows_len c = (search rules, zero_at 2313)
 
 pub returns-then-not-is_safe : goal.returns-then-not-is_safe
 returns-then-not-is_safe c =
@@ -28,12 +28,9 @@ returns-then-not-is_safe c =
 
 pub returns : goal.returns
 returns c =
-    let sixteen : Sixteen c.ranked_rows-list.result = record {
-      most = omega (arith, c.ranked_rows-list.ensures.within, c.requires.in_range.k_most);
-      serials = search (rules, length_unmapped);
-      keys = search (rules, length_unmapped);
-    } in
-    let eight : length c.args.thresholds ≡ 8 = search (rules, length_unmapped) in
+    let most : c.ranked_rows-list.result.count ≤ 16 = omega (arith, c.ranked_rows-list.ensures.within, c.requires.in_range.k_most) in
+    let sixteen : Sixteen c.ranked_rows-list.result = search rules in
+    let eight : length c.args.thresholds ≡ 8 = search rules in
     let a = c.args in
     let looked = c.look.ensures in
     record {

@@ -6,7 +6,7 @@ use Rattle.query.proofs.SettleLaws.{having_picked}
 use Rattle.query.proofs.sift.Goals as goal
 
 pub look-requires-clause-rows_len : goal.look-requires-clause-rows_len
-look-requires-clause-rows_len c = (search rules, λ i. zero_at 2313 i)
+look-requires-clause-rows_len c = (search rules, zero_at 2313)
 
 pub returns : goal.returns
 returns c =
