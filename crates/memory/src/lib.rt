@@ -11,11 +11,7 @@ pub fn get(s: &[u8], i: usize) -> u32
     ensures { result ≡ get_or (words s.now) i 0 }
 {
     let at = 4 * i;
-    let a = u32::from(s[at]);
-    let b = u32::from(s[at + 1]);
-    let c = u32::from(s[at + 2]);
-    let d = u32::from(s[at + 3]);
-    a + b * 256 + c * 65536 + d * 16777216
+    u32::from_le_bytes([s[at], s[at + 1], s[at + 2], s[at + 3]])
 }
 
 // The word at index i becomes v.
@@ -24,10 +20,7 @@ pub fn put(s: &mut [u8], i: usize, v: u32)
     ensures { s.new ≡ put_word s.old i v }
 {
     let at = 4 * i;
-    s[at] = (v % 256) as u8;
-    s[at + 1] = (v / 256 % 256) as u8;
-    s[at + 2] = (v / 65536 % 256) as u8;
-    s[at + 3] = (v / 16777216 % 256) as u8;
+    s[at..at + 4].copy_from_slice(&v.to_le_bytes());
 }
 
 // N words from index i on.
@@ -58,11 +51,7 @@ pub fn get_big(s: &[u8], i: usize) -> u32
     ensures { result ≡ get_or (big_words s.now) i 0 }
 {
     let at = 4 * i;
-    let first = u32::from(s[at]);
-    let second = u32::from(s[at + 1]);
-    let third = u32::from(s[at + 2]);
-    let last = u32::from(s[at + 3]);
-    first * 16777216 + second * 65536 + third * 256 + last
+    u32::from_be_bytes([s[at], s[at + 1], s[at + 2], s[at + 3]])
 }
 
 // The word at index i of what is written for a host becomes v.
@@ -71,10 +60,7 @@ pub fn put_big(s: &mut [u8], i: usize, v: u32)
     ensures { s.new ≡ put_big s.old i v }
 {
     let at = 4 * i;
-    s[at] = (v / 16777216 % 256) as u8;
-    s[at + 1] = (v / 65536 % 256) as u8;
-    s[at + 2] = (v / 256 % 256) as u8;
-    s[at + 3] = (v % 256) as u8;
+    s[at..at + 4].copy_from_slice(&v.to_be_bytes());
 }
 
 // N words are written for a host, from index i on.
