@@ -63,7 +63,7 @@ pub fn put_big(s: &mut [u8], i: usize, v: u32)
     s[at..at + 4].copy_from_slice(&v.to_be_bytes());
 }
 
-// N words are written for a host, from index i on.
+// N words are written for a host, from index i on. One function for both byte orders would want a trait and two types, more than this loop.
 pub fn store_big<const N: usize>(s: &mut [u8], i: usize, a: [u32; N])
     requires { 4 * (i + N) ≤ length s.old }
     ensures { Stored i N a.entry (big_words s.old) (big_words s.new) }

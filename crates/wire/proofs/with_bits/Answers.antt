@@ -10,11 +10,12 @@ use Rattle.wire.proofs.with_bits.Goals as goal
 
 -- what the code makes, with what each need after it asks
 patch : (c : goal.After-pow2-low) → let a = c.args in
-    let y : ℕ = patched a.b c.pow2-top.result c.pow2-low.result a.x in
+    let y : ℕ = patched c.from-w.result c.pow2-top.result c.pow2-low.result a.x in
     (y < 256) × (bits 8 y ≡ paste (bits 8 a.b) a.k (bits a.n a.x) a.n)
 patch c =
     let a = c.args in
-    byte_patch a.b a.k a.n a.x c.pow2-top.result c.pow2-low.result (omega arith) (omega arith) c.requires.1 c.pow2-top.ensures c.pow2-low.ensures
+    rw c.from-w.ensures
+    (byte_patch a.b a.k a.n a.x c.pow2-top.result c.pow2-low.result (omega arith) (omega arith) c.requires.1 c.pow2-top.ensures c.pow2-low.ensures)
 
 pub nonzero_div-result : goal.nonzero_div-result
 nonzero_div-result c =
