@@ -137,7 +137,8 @@ word_bytes : {a b c d a' b' c' d' : ℕ} → a < 256 → b < 256 → c < 256 →
 word_bytes ha hb hc ha' hb' hc' e = (omega arith, omega arith, omega arith, omega arith)
 
 module _ (s t : List ℕ) (bs : (i : ℕ) → get_or s i 0 < 256) (bt : (i : ℕ) → get_or t i 0 < 256) where
-  same_byte : (j : ℕ) → 4 * (j / 4) + 4 ≤ length s → 4 * (j / 4) + 4 ≤ length t → get_or (words s) (j / 4) 0 ≡ get_or (words t) (j / 4) 0 → get_or s j 0 ≡ get_or t j 0
+  same_byte : (j : ℕ) → 4 * (j / 4) + 4 ≤ length s → 4 * (j / 4) + 4 ≤ length t → get_or (words s) (j / 4) 0 ≡ get_or (words t) (j / 4) 0
+      → get_or s j 0 ≡ get_or t j 0
   same_byte j hs ht e = rw (div-add-mod j 4) at (go (j % 4) (omega arith))
     where
       i : ℕ

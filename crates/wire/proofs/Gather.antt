@@ -52,31 +52,39 @@ field_part s a p w c h =
     ∙ low (num (take p l)) w (subst (λ (k : ℕ). num m < 2 ^ k) lm (num_lt m))
     ∙ ap (λ (x : List Bool). num (take w x)) (drop-drop p a (unpack s))
 
--- ---- the n bytes from byte f on, with the numbers as code has them
+-- ---- the loop of `take_bits`, which gathers the n bytes from byte f on
+
+-- i of them are gathered in acc
+pub record Gathered (s : List ℕ) (f n i acc : ℕ) : Type 0 where
+  pub bound : i ≤ n
+  pub is : acc ≡ field s (8 * f) (8 * i)
+
+pub gathered_none : {s : List ℕ} {f n : ℕ} → Gathered s f n 0 0
+unfolding field num
+gathered_none = record { bound = omega arith; is = refl }
 
 part_length : (s : List ℕ) (f n : ℕ) → f + n ≤ length s → length (take n (drop f s)) ≡ n
 part_length s f n h = length-take-le n (drop f s) (rw length-drop (omega arith))
 
--- four bytes at most were gathered before a turn
-pub gathered_lt : (s : List ℕ) (f n i acc : ℕ) → i < length (take n (drop f s)) → n ≤ 5 → acc ≡ field s (8 * f) (8 * i) → acc < 2 ^ 32
-gathered_lt s f n i acc hi hn e =
-    rw e (field_fits s (8 * f) (8 * i) 32 (omega (arith, length-take n (drop f s))))
+module _ {s : List ℕ} {f n i acc : ℕ} (g : Gathered s f n i acc) where
+  -- before one byte more they're at most four
+  pub gathered_lt : i < length (take n (drop f s)) → n ≤ 5 → acc < 2 ^ 32
+  gathered_lt hi hn = rw g.is (field_fits s (8 * f) (8 * i) 32 (omega (arith, length-take n (drop f s))))
 
--- a turn
-pub gather_turn : (s : List ℕ) (f n i acc x : ℕ) → Bytes s → f + n ≤ length s → i < length (take n (drop f s)) → x ≡ get_or (take n (drop f s)) i 0
-    → acc ≡ field s (8 * f) (8 * i) → acc * 256 + x ≡ field s (8 * f) (8 * (i + 1))
-gather_turn s f n i acc x hb hn hi ex e =
-    let l = part_length s f n hn in
-    let m : 8 * (i + 1) ≡ 8 * i + 8 = omega arith in
-    let y : x ≡ get_or s (f + i) 0 = ex ∙ get_or-take n (drop f s) i 0 (omega arith) ∙ get_or-drop f s i 0 in
-    rw (m, field_byte s (8 * f) (8 * i) (f + i) (omega arith) (omega arith) (hb (f + i)), e, y) refl
+  pub gathered_more : {x : ℕ} → i < length (take n (drop f s)) → f + n ≤ length s → Bytes s → x ≡ get_or (take n (drop f s)) i 0
+      → Gathered s f n (i + 1) (acc * 256 + x)
+  gathered_more {x} hi hn hb ex =
+      let l = part_length s f n hn in
+      let m : 8 * (i + 1) ≡ 8 * i + 8 = omega arith in
+      let y : x ≡ get_or s (f + i) 0 = ex ∙ get_or-take n (drop f s) i 0 (omega arith) ∙ get_or-drop f s i 0 in
+      record { bound = omega arith; is = rw (m, field_byte s (8 * f) (8 * i) (f + i) (omega arith) (omega arith) (hb (f + i)), g.is, y) refl }
 
--- the field in them, once the c bits after it, and those before it, are cut off
-pub gather_done : (s : List ℕ) (at w f n i c acc : ℕ) → i ≤ length (take n (drop f s)) → length (take n (drop f s)) ≤ i → acc ≡ field s (8 * f) (8 * i)
-    → f + n ≤ length s → 8 * f ≤ at → at + w + c ≡ 8 * (f + n) → w < 64 → acc / 2 ^ c % (1 * 2 ^ w % 2 ^ 64) ≡ field s at w
-gather_done s at w f n i c acc hi hj e hn hf hc hw =
-    let l = part_length s f n hn in
-    let p : ℕ = at - 8 * f in
-    let m : 8 * i ≡ p + w + c = omega arith in
-    let a : 8 * f + p ≡ at = omega arith in
-    rw (one_shl w 64 hw, e, m, field_part s (8 * f) p w c (omega arith), a)
+  -- the field in them, once the c bits after it, and those before it, are cut off
+  pub gathered_all : {at : ℕ} (w c : ℕ) → length (take n (drop f s)) ≤ i → f + n ≤ length s → 8 * f ≤ at → at + w + c ≡ 8 * (f + n) → w < 64
+      → acc / 2 ^ c % (1 * 2 ^ w % 2 ^ 64) ≡ field s at w
+  gathered_all {at} w c hi hn hf hc hw =
+      let l = part_length s f n hn in
+      let p : ℕ = at - 8 * f in
+      let m : 8 * i ≡ p + w + c = omega (arith, g.bound) in
+      let a : 8 * f + p ≡ at = omega arith in
+      rw (one_shl w 64 hw, g.is, m, field_part s (8 * f) p w c (omega arith), a)
