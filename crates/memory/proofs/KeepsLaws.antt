@@ -32,7 +32,8 @@ keeps_more {t = t} p i v l h = keeps_trans p (keeps_wider l h (keeps_set t i v))
 four_keeps : (s : List ℕ) (i a b c d : ℕ) → Keeps (4 * i) (4 * i + 4) s (put_four s i a b c d)
 unfolding put_four
 four_keeps s i a b c d =
-    keeps_more (keeps_more (keeps_more (keeps_more (keeps_refl (4 * i) (4 * i + 4) s) (4 * i) a (omega arith) (omega arith)) (4 * i + 1) b (omega arith) (omega arith))
+    keeps_more (keeps_more (keeps_more (keeps_more (keeps_refl (4 * i) (4 * i + 4) s) (4 * i) a (omega arith) (omega arith)) (4 * i + 1) b
+    (omega arith) (omega arith))
     (4 * i + 2) c (omega arith) (omega arith)) (4 * i + 3) d (omega arith) (omega arith)
 
 pub big_keeps : (s : List ℕ) (i v : ℕ) → Keeps (4 * i) (4 * i + 4) s (put_big s i v)

@@ -53,6 +53,19 @@ module _ (f : ℕ → ℕ → ℕ → ℕ → ℕ) where
   fours_append (a ∷ b ∷ c ∷ []) t h = absurd (omega arith)
   fours_append (a ∷ b ∷ c ∷ d ∷ s) t h = ap (λ (w : List ℕ). f a b c d ∷ w) (fours_append s t (omega arith))
 
+-- four bytes written as one part are written one by one
+pub paste_four : (s : List ℕ) (i n a b c d : ℕ) → n ≡ 4 → 4 * i + 4 ≤ length s
+    → take (4 * i) s ++ (a ∷ b ∷ c ∷ d ∷ drop n (drop (4 * i) s)) ≡ put_four s i a b c d
+unfolding put_four
+paste_four [] i n a b c d e h = absurd (omega arith)
+paste_four (x ∷ []) i n a b c d e h = absurd (omega arith)
+paste_four (x ∷ y ∷ []) i n a b c d e h = absurd (omega arith)
+paste_four (x ∷ y ∷ z ∷ []) i n a b c d e h = absurd (omega arith)
+paste_four (x ∷ y ∷ z ∷ t ∷ s) zero n a b c d e h = rw e refl
+paste_four (x ∷ y ∷ z ∷ t ∷ s) (suc i) n a b c d e h =
+    rw four
+    (simp towards_suc (ap (λ (l : List ℕ). x ∷ y ∷ z ∷ t ∷ l) (simp towards_suc at (paste_four s i n a b c d e (omega arith)))))
+
 four_length : (s : List ℕ) (i a b c d : ℕ) → length (put_four s i a b c d) ≡ length s
 unfolding put_four
 four_length s i a b c d = simp length-set
@@ -124,7 +137,8 @@ word_bytes : {a b c d a' b' c' d' : ℕ} → a < 256 → b < 256 → c < 256 →
 word_bytes ha hb hc ha' hb' hc' e = (omega arith, omega arith, omega arith, omega arith)
 
 module _ (s t : List ℕ) (bs : (i : ℕ) → get_or s i 0 < 256) (bt : (i : ℕ) → get_or t i 0 < 256) where
-  same_byte : (j : ℕ) → 4 * (j / 4) + 4 ≤ length s → 4 * (j / 4) + 4 ≤ length t → get_or (words s) (j / 4) 0 ≡ get_or (words t) (j / 4) 0 → get_or s j 0 ≡ get_or t j 0
+  same_byte : (j : ℕ) → 4 * (j / 4) + 4 ≤ length s → 4 * (j / 4) + 4 ≤ length t → get_or (words s) (j / 4) 0 ≡ get_or (words t) (j / 4) 0
+      → get_or s j 0 ≡ get_or t j 0
   same_byte j hs ht e = rw (div-add-mod j 4) at (go (j % 4) (omega arith))
     where
       i : ℕ

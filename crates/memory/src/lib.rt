@@ -5,23 +5,13 @@ ghost use Rattle.std.specs.Prelude.{◌≡◌, ◌+◌, ◌*◌, ◌<◌, ◌≤
 ghost use Rattle.memory.specs.Words.{words, put_word, big_words, put_big};
 ghost use Rattle.memory.specs.Keeps.{Stored};
 
-fn wide(x: u8) -> u32
-    ensures { (result ≡ x) × (result < 256) }
-{
-    x as u32
-}
-
 // The word at index i.
 pub fn get(s: &[u8], i: usize) -> u32
     requires { 4 * i + 4 ≤ length s.now }
     ensures { result ≡ get_or (words s.now) i 0 }
 {
     let at = 4 * i;
-    let a = wide(s[at]);
-    let b = wide(s[at + 1]);
-    let c = wide(s[at + 2]);
-    let d = wide(s[at + 3]);
-    a + b * 256 + c * 65536 + d * 16777216
+    u32::from_le_bytes([s[at], s[at + 1], s[at + 2], s[at + 3]])
 }
 
 // The word at index i becomes v.
@@ -30,10 +20,7 @@ pub fn put(s: &mut [u8], i: usize, v: u32)
     ensures { s.new ≡ put_word s.old i v }
 {
     let at = 4 * i;
-    s[at] = (v % 256) as u8;
-    s[at + 1] = (v / 256 % 256) as u8;
-    s[at + 2] = (v / 65536 % 256) as u8;
-    s[at + 3] = (v / 16777216 % 256) as u8;
+    s[at..at + 4].copy_from_slice(&v.to_le_bytes());
 }
 
 // N words from index i on.
@@ -51,7 +38,7 @@ pub fn load<const N: usize>(s: &[u8], i: usize) -> [u32; N]
 // N words are written from index i on.
 pub fn store<const N: usize>(s: &mut [u8], i: usize, a: [u32; N])
     requires { 4 * (i + N) ≤ length s.old }
-    ensures { Stored i N a (words s.old) (words s.new) }
+    ensures { Stored i N a.entry (words s.old) (words s.new) }
 {
     for n in 0..N {
         put(s, i + n, a[n]);
@@ -64,11 +51,7 @@ pub fn get_big(s: &[u8], i: usize) -> u32
     ensures { result ≡ get_or (big_words s.now) i 0 }
 {
     let at = 4 * i;
-    let first = wide(s[at]);
-    let second = wide(s[at + 1]);
-    let third = wide(s[at + 2]);
-    let last = wide(s[at + 3]);
-    first * 16777216 + second * 65536 + third * 256 + last
+    u32::from_be_bytes([s[at], s[at + 1], s[at + 2], s[at + 3]])
 }
 
 // The word at index i of what is written for a host becomes v.
@@ -77,16 +60,13 @@ pub fn put_big(s: &mut [u8], i: usize, v: u32)
     ensures { s.new ≡ put_big s.old i v }
 {
     let at = 4 * i;
-    s[at] = (v / 16777216 % 256) as u8;
-    s[at + 1] = (v / 65536 % 256) as u8;
-    s[at + 2] = (v / 256 % 256) as u8;
-    s[at + 3] = (v % 256) as u8;
+    s[at..at + 4].copy_from_slice(&v.to_be_bytes());
 }
 
-// N words are written for a host, from index i on.
+// N words are written for a host, from index i on. One function for both byte orders would want a trait and two types, more than this loop.
 pub fn store_big<const N: usize>(s: &mut [u8], i: usize, a: [u32; N])
     requires { 4 * (i + N) ≤ length s.old }
-    ensures { Stored i N a (big_words s.old) (big_words s.new) }
+    ensures { Stored i N a.entry (big_words s.old) (big_words s.new) }
 {
     for n in 0..N {
         put_big(s, i + n, a[n]);

@@ -1,7 +1,25 @@
 -- Laws of bits and of bytes, for every width. Assumes nothing.
 use mathlib.Core.Path.{◌≡◌, refl, sym, ap, ◌∙◌}
 use Prim.Native.Nat.{ℕ, zero, suc, ◌+◌, ◌*◌, ◌/◌, ◌%◌, ◌^◌, ◌<◌}
-use native.Mathlib.Nat.{zero-add, suc-add, add_assoc, add_comm, add-mul, mul_assoc, mod-lt, mod-eq_of_lt, mod-one, zero-mul, one-mul, pow-succ', le_of_eq, not-suc-le-zero, le_of_suc-le-suc, mul-add-mod_self_right, mul-add-div_right}
+use native.Mathlib.Nat.{
+  zero-add,
+  suc-add,
+  add_assoc,
+  add_comm,
+  add-mul,
+  mul_assoc,
+  mod-lt,
+  mod-eq_of_lt,
+  mod-one,
+  zero-mul,
+  one-mul,
+  pow-succ',
+  le_of_eq,
+  not-suc-le-zero,
+  le_of_suc-le-suc,
+  mul-add-mod_self_right,
+  mul-add-div_right,
+}
 use native.Mathlib.Numerals.{one-add}
 use native.Mathlib.Omega.{arith}
 use mathlib.Core.Bool.{Bool, true, false}
@@ -95,7 +113,14 @@ pub num_append : (a b : List Bool) → num (a ++ b) ≡ num a * 2 ^ length b + n
 unfolding num
 num_append [] b = rw (zero-mul (2 ^ length b), zero-add (num b))
 num_append (x ∷ a) b =
-    rw (num_append a b, length-append a b, pow-add 2 (length a) (length b), add-mul (val x * 2 ^ length a) (num a) (2 ^ length b), mul_assoc (val x) (2 ^ length a) (2 ^ length b), add_assoc (val x * (2 ^ length a * 2 ^ length b)) (num a * 2 ^ length b) (num b))
+    rw (
+      num_append a b,
+      length-append a b,
+      pow-add 2 (length a) (length b),
+      add-mul (val x * 2 ^ length a) (num a) (2 ^ length b),
+      mul_assoc (val x) (2 ^ length a) (2 ^ length b),
+      add_assoc (val x * (2 ^ length a * 2 ^ length b)) (num a * 2 ^ length b) (num b),
+    )
 
 -- ---- bytes
 

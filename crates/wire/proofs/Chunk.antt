@@ -6,7 +6,22 @@ use native.Mathlib.Omega.{arith}
 use mathlib.Core.Bool.{Bool}
 use mathlib.Core.List.{List, [], ◌∷◌, ◌++◌, append_assoc}
 use lib.ListN.{length, take, drop, get_or, set, length-append}
-use lib.Seq.{take-append-le, drop-append-le, take-append-add, drop-append-add, take_at, drop_at, take_all, paste, take-add, drop-drop, take-take, paste-zero, take-paste, drop-paste}
+use lib.Seq.{
+  take-append-le,
+  drop-append-le,
+  take-append-add,
+  drop-append-add,
+  take_at,
+  drop_at,
+  take_all,
+  paste,
+  take-add,
+  drop-drop,
+  take-take,
+  paste-zero,
+  take-paste,
+  drop-paste,
+}
 use lib.Pow.{pow_pos, pow-add, high, shr_lt}
 use lib.Arith.{digits_lt}
 use Rattle.wire.specs.Bits.{bits, unpack}
@@ -32,8 +47,10 @@ bits_patch k n j b x hx =
     bits_skip (n + j) hi l ∙ bits_add n j l ∙ ap₂ (λ (c d : List Bool). c ++ d) (ap (bits n) (high x j lo-lt)) (bits_skip j x lo ∙ bits_mod j b) in
     let was : bits (k + (n + j)) b ≡ (bits k hi ++ bits n (b / 2 ^ j)) ++ bits j b =
     bits_add k (n + j) b ∙ ap (λ (c : List Bool). bits k hi ++ c) (bits_add n j b) ∙ sym (append_assoc (bits k hi) (bits n (b / 2 ^ j)) (bits j b)) in
-    let front : length (bits k hi ++ bits n (b / 2 ^ j)) ≡ k + n = length-append (bits k hi) (bits n (b / 2 ^ j)) ∙ ap₂ (λ (c d : ℕ). c + d) (length_bits k hi) (length_bits n (b / 2 ^ j)) in
-    let t₁ : take k (bits (k + (n + j)) b) ≡ bits k hi = rw (was, append_assoc (bits k hi) (bits n (b / 2 ^ j)) (bits j b)) (take_at (bits k hi) (bits n (b / 2 ^ j) ++ bits j b) k (length_bits k hi)) in
+    let front : length (bits k hi ++ bits n (b / 2 ^ j)) ≡ k + n =
+    length-append (bits k hi) (bits n (b / 2 ^ j)) ∙ ap₂ (λ (c d : ℕ). c + d) (length_bits k hi) (length_bits n (b / 2 ^ j)) in
+    let t₁ : take k (bits (k + (n + j)) b) ≡ bits k hi =
+    rw (was, append_assoc (bits k hi) (bits n (b / 2 ^ j)) (bits j b)) (take_at (bits k hi) (bits n (b / 2 ^ j) ++ bits j b) k (length_bits k hi)) in
     let t₂ : take n (bits n x) ≡ bits n x = take_all n (bits n x) (le_of_eq (length_bits n x)) in
     let t₃ : drop (k + n) (bits (k + (n + j)) b) ≡ bits j b = rw was (drop_at (bits k hi ++ bits n (b / 2 ^ j)) (bits j b) (k + n) front) in
     bits_add k (n + j) v ∙ ap₂ (λ (c d : List Bool). c ++ d) e₁ e₂ ∙ sym (append_assoc (bits k hi) (bits n x) (bits j b))
@@ -67,7 +84,13 @@ unpack_patch (z ∷ s) (suc q) k n y xs hq hk l e =
     let b : List Bool = bits 8 z in
     let p : 8 * suc q + k ≡ length b + (8 * q + k) = omega (arith, length_bits 8 z) in
     let r : List Bool = drop (8 * q + k + n) (unpack s) in
-    rw (p, unpack_patch s q k n y xs (le_of_suc-le-suc hq) hk l e, take-append-add b (unpack s) (8 * q + k), add_assoc (length b) (8 * q + k) n, drop-append-add b (unpack s) (8 * q + k + n))
+    rw (
+      p,
+      unpack_patch s q k n y xs (le_of_suc-le-suc hq) hk l e,
+      take-append-add b (unpack s) (8 * q + k),
+      add_assoc (length b) (8 * q + k) n,
+      drop-append-add b (unpack s) (8 * q + k + n),
+    )
     (simp append_assoc)
 
 -- one part after another
@@ -77,13 +100,20 @@ paste_more d at s i n hd hs =
     let t₁ : take (at + i) (paste d at s i) ≡ take at d ++ take i s = take-paste d at s i hd hs in
     let t₂ : take n (take n (drop i s)) ≡ take n (drop i s) = take-take n n (drop i s) (le_refl n) in
     let t₃ : drop (at + i + n) (paste d at s i) ≡ drop (at + (i + n)) d =
-    sym (drop-drop n (at + i) (paste d at s i)) ∙ ap (drop n) (drop-paste d at s i hd hs) ∙ drop-drop n (at + i) d ∙ ap (λ (k : ℕ). drop k d) (add_assoc at i n) in
-    (λ j. t₁ j ++ t₂ j ++ t₃ j) ∙ ap (λ (l : List Bool). l ++ drop (at + (i + n)) d) (append_assoc (take at d) (take i s) (take n (drop i s)) ∙ ap (λ (l : List Bool). take at d ++ l) (sym (take-add i n s)))
+    sym (drop-drop n (at + i) (paste d at s i)) ∙ ap (drop n) (drop-paste d at s i hd hs) ∙ drop-drop n (at + i) d
+    ∙ ap (λ (k : ℕ). drop k d) (add_assoc at i n) in
+    (λ j. t₁ j ++ t₂ j ++ t₃ j) ∙ ap (λ (l : List Bool). l ++ drop (at + (i + n)) d) (append_assoc (take at d) (take i s) (take n (drop i s))
+    ∙ ap (λ (l : List Bool). take at d ++ l) (sym (take-add i n s)))
 
 -- the bits of a chunk of a number
 bits_chunk : (i n c v : ℕ) → bits n (v / 2 ^ c % 2 ^ n) ≡ take n (drop i (bits (i + (n + c)) v))
 bits_chunk i n c v =
-    sym (rw (bits_add i (n + c) v, drop_at (bits i (v / 2 ^ (n + c))) (bits (n + c) v) i (length_bits i (v / 2 ^ (n + c))), bits_add n c v, take_at (bits n (v / 2 ^ c)) (bits c v) n (length_bits n (v / 2 ^ c)))
+    sym (rw (
+      bits_add i (n + c) v,
+      drop_at (bits i (v / 2 ^ (n + c))) (bits (n + c) v) i (length_bits i (v / 2 ^ (n + c))),
+      bits_add n c v,
+      take_at (bits n (v / 2 ^ c)) (bits c v) n (length_bits n (v / 2 ^ c)),
+    )
     (sym (bits_mod n (v / 2 ^ c))))
 
 -- ---- the loop of `put_bits`

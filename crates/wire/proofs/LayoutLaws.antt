@@ -40,7 +40,8 @@ spell_scan s (w ∷ ws) at h =
     let l : List Bool = drop at (unpack s) in
     let n : length (take w l) ≡ w = length-take-le w l (rw (length-drop at (unpack s), length_unpack s) (omega arith)) in
     let hd : bits w (num (take w l)) ≡ take w l = ap (λ (k : ℕ). bits k (num (take w l))) (sym n) ∙ bits_num (take w l) in
-    let tl : spell ws (scan s (at + w) ws) ≡ take (total ws) (drop w l) = spell_scan s ws (at + w) (omega arith) ∙ ap (take (total ws)) (sym (drop-drop w at (unpack s))) in
+    let tl : spell ws (scan s (at + w) ws) ≡ take (total ws) (drop w l) =
+    spell_scan s ws (at + w) (omega arith) ∙ ap (take (total ws)) (sym (drop-drop w at (unpack s))) in
     ap₂ (λ (x y : List Bool). x ++ y) hd tl ∙ sym (take-add w (total ws) l)
 
 -- a list of bytes that a layout fills is what its fields spell

@@ -1,7 +1,7 @@
 // Bit fields in bytes, most significant bit first.
 #![tactic(auto)]
 
-ghost use Rattle.std.specs.Prelude.{◌≡◌, ◌+◌, ◌*◌, ◌/◌, ◌%◌, ◌^◌, ◌≤◌, ◌<◌, min, length};
+ghost use Rattle.std.specs.Prelude.{◌≡◌, ◌+◌, ◌*◌, ◌/◌, ◌%◌, ◌^◌, ◌≤◌, ◌<◌, length};
 ghost use Rattle.std.proofs.Math.Seq.{paste};
 ghost use Rattle.wire.specs.Bits.{bits, unpack};
 ghost use Rattle.wire.specs.Field.{field, placed};
@@ -17,10 +17,8 @@ pub fn take_bits(s: &[u8], at: usize, width: usize) -> u32
     let bytes = (used + 7) / 8;
     let end = first + bytes;
     let mut acc: u64 = 0;
-    let mut i = first;
-    while i < end {
-        acc = acc * 256 + s[i] as u64;
-        i += 1;
+    for byte in &s[first..end] {
+        acc = acc * 256 + u64::from(*byte);
     }
     let after = bytes * 8 - used;
     ((acc >> after) % (1u64 << width)) as u32
@@ -69,12 +67,6 @@ pub fn pow2(k: usize) -> u32
     1u32 << k
 }
 
-fn lesser(a: usize, b: usize) -> usize
-    ensures { result ≡ min a b }
-{
-    if a < b { a } else { b }
-}
-
 // The n bits of value that stand above its c lowest.
 fn cut(value: u32, c: usize, n: usize) -> u32
     requires { (c < 32) × (n < 32) }
@@ -89,7 +81,7 @@ fn with_bits(b: u8, k: usize, n: usize, x: u32) -> u8
     requires { (k + n ≤ 8) × (x < 2 ^ n) }
     ensures { bits 8 result ≡ paste (bits 8 b) k (bits n x) n }
 {
-    let w = b as u32;
+    let w = u32::from(b);
     let top = pow2(8 - k);
     let low = pow2(8 - k - n);
     (w / top * top + (x * low + w % low)) as u8
@@ -106,7 +98,7 @@ pub fn put_bits(s: &mut [u8], at: usize, width: usize, value: u32)
     let mut k = at % 8;
     let mut left = width;
     while left > 0 {
-        let n = lesser(left, 8 - k);
+        let n = left.min(8 - k);
         let x = cut(value, left - n, n);
         let b = with_bits(s[q], k, n, x);
         s[q] = b;

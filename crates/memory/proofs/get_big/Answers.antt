@@ -1,7 +1,6 @@
 -- `memory::get_big` meets its contract. Assumes nothing.
-use native.Mathlib.Omega.{arith}
 use Rattle.memory.proofs.WordLaws.{get_big}
 use Rattle.memory.proofs.get_big.Goals as goal
 
 pub returns : goal.returns
-returns c = let a = c.args in rw (get_big a.s.now a.i (omega arith)) (omega arith)
+returns c = rw (get_big c.args.s.now c.args.i c.requires) c.from_be_bytes.ensures

@@ -1,19 +1,12 @@
 -- `memory::put` meets its contract. Assumes nothing.
 use native.Mathlib.Omega.{arith}
-use mathlib.Core.Path.{refl}
-use lib.ListN.{length-set}
-use Rattle.memory.specs.Words.{put_four, put_word}
+use Rattle.memory.specs.Words.{put_word}
+use Rattle.memory.proofs.WordLaws.{paste_four}
 use Rattle.memory.proofs.put.Goals as goal
 
-pub bounds-s-at-2 : goal.bounds-s-at-2
-bounds-s-at-2 c = simp length-set (omega arith)
-
-pub bounds-s-at-3 : goal.bounds-s-at-3
-bounds-s-at-3 c = simp length-set (omega arith)
-
-pub bounds-s-at-4 : goal.bounds-s-at-4
-bounds-s-at-4 c = simp length-set (omega arith)
-
 pub returns : goal.returns
-unfolding put_four put_word
-returns c = refl
+unfolding put_word
+returns c =
+    let a = c.args in
+    rw (c.copy_from_slice.ensures.after, c.to_le_bytes.ensures)
+    (paste_four a.s.now a.i _ _ _ _ _ (omega arith) (omega arith))

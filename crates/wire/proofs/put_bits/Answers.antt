@@ -1,17 +1,12 @@
 -- `put_bits` meets its contract. Assumes nothing.
 use mathlib.Core.Path.{◌∙◌}
-use native.Mathlib.Nat.{mod-lt}
 use native.Mathlib.Omega.{arith}
 use lib.ListN.{length-set}
-use lib.Pow.{pow_pos}
 use Rattle.wire.proofs.Chunk.{chunks_start, chunks_turn, chunks_done}
 use Rattle.wire.proofs.put_bits.Goals as goal
 
 pub loop-left-init : goal.loop-left-init
 loop-left-init c = (omega arith, omega arith, omega arith, omega arith, chunks_start _ _ _ _)
-
-pub with_bits-b-requires : goal.with_bits-b-requires
-with_bits-b-requires c = (omega arith, rw c.cut-x.ensures (mod-lt _ (pow_pos c.lesser-n.result)))
 
 pub loop-left-preserved : goal.loop-left-preserved
 loop-left-preserved c =
@@ -20,7 +15,8 @@ loop-left-preserved c =
       omega arith,
       omega arith,
       simp length-set l.invariant.3,
-      chunks_turn _ _ _ _ _ _ l.q l.k c.lesser-n.result _ _ l.invariant.4 c.with_bits-b.ensures c.cut-x.ensures l.invariant.3 (omega arith) (omega arith) (omega arith) (omega arith) (omega arith) (omega arith),
+      chunks_turn _ _ _ _ _ _ l.q l.k c.min-n.result _ _ l.invariant.4 c.with_bits-b.ensures c.cut-x.ensures l.invariant.3 (omega arith) (omega arith)
+          (omega arith) (omega arith) (omega arith) (omega arith),
     )
 
 pub returns : goal.returns
