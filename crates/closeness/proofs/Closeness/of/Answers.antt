@@ -15,7 +15,7 @@ divided-requires c =
     let counts_below : Below c.args.query.n (2 ^ count_width) c.counts_in-counts.result =
     λ i h. omega (arith, c.counts_in-counts.ensures i h) in
     let q = c.args.query in
-    let below = c.requires.3 in
+    let below = c.requires.2 in
     let shared = sum_most 255 q.n q.weights c.counts_in-counts.result below counts_below in
     let squared = sum_most most_weight q.n q.weights q.weights below below in
     (omega (arith, c.weighted-shared.ensures), c.squares_in-squares.ensures.1, omega (arith, c.weighted.ensures))
