@@ -9,5 +9,7 @@ use Rattle.closeness.specs.Post.{count_among}
 use Rattle.closeness.proofs.counts_in.Given as goal
 
 abbrev pub invariant-loop-i : goal.invariant-loop-i
-invariant-loop-i l = (length l.counts ≡ most_terms)
-    × ((p : ℕ) → p < l.i → get_or l.counts p 0 ≡ count_among (slot (words l.state) l.j).cells (get_or l.terms p 0))
+invariant-loop-i l = record {
+  long : length l.counts ≡ most_terms;
+  filled : (p : ℕ) → p < l.i → get_or l.counts p 0 ≡ count_among (slot (words l.state) l.j).cells (get_or l.terms p 0);
+}
