@@ -1,10 +1,9 @@
 // Closeness: the square of the cosine between a message and a query, in tenths of a percent, as quotient and remainder.
 #![tactic(auto)]
 
-ghost use Rattle.std.specs.Prelude.{◌≡◌, ◌≤◌, ◌<◌, min, max, length};
+ghost use Rattle.std.specs.Prelude.{◌≤◌, ◌<◌};
 ghost use Rattle.paper.specs.Frame.{most_terms};
-ghost use Rattle.paper.specs.Layout.{state_length, slots};
-ghost use Rattle.paper.specs.Closeness.{whole};
+ghost use Rattle.paper.specs.Layout.{slots};
 ghost use Rattle.memory.specs.Words.{words};
 ghost use Rattle.impact.specs.Cell.{most_squares};
 ghost use Rattle.rank.specs.Weights.{weight_limit, Below};
@@ -46,30 +45,10 @@ fn counts_in(state: &State, j: usize, query: Query) -> [u32; 8]
     let n = query.n;
     let terms = query.terms;
     let mut counts = [0u32; 8];
-    let mut i: usize = 0;
-    while i < n {
+    for i in 0..n {
         counts[i] = window::count_in(state, j, terms[i]);
-        i += 1;
     }
     counts
-}
-
-// What is divided by: in foreign memory a message may have no count at all.
-fn at_least_one(product: u64) -> u64
-    ensures { result ≡ max product 1 }
-{
-    if product < 1 { 1 } else { product }
-}
-
-// In foreign memory, where terms needn't rise, a quotient may be more.
-fn at_most_whole(quotient: u64) -> u32
-    ensures { result ≡ min quotient whole }
-{
-    if quotient < WHOLE {
-        quotient as u32
-    } else {
-        WHOLE as u32
-    }
 }
 
 // 1000 × s² by a × b: `shared` is s, `squares` is a and `weights` is b.
@@ -77,13 +56,15 @@ fn divided(shared: u32, squares: u32, weights: u32) -> Closeness
     requires { (shared ≤ most_shared) × (squares ≤ most_squares) × (weights ≤ most_weight_squares) }
     ensures { Divided shared squares weights result }
 {
-    let shared = shared as u64;
+    let shared = u64::from(shared);
     let square = shared * shared;
     let dividend = WHOLE * square;
-    let divisor = at_least_one(squares as u64 * weights as u64);
+    // in foreign memory a message may have no count at all
+    let divisor = (u64::from(squares) * u64::from(weights)).max(1);
     let remainder = (dividend % divisor) as u32;
     Closeness {
-        quotient: at_most_whole(dividend / divisor),
+        // in foreign memory, where terms needn't rise, a quotient may be more than the whole
+        quotient: (dividend / divisor).min(WHOLE) as u32,
         remainder,
     }
 }

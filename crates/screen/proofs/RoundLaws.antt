@@ -31,17 +31,17 @@ use Rattle.screen.proofs.WaitLaws.{all_known}
 -- ---- a round
 
 -- the lines of the first j queries are written
-pub record WritingRound (w : List ℕ) (i n : ℕ) (qs out₀ out : List ℕ) (j : ℕ) : Type 0 where
-  pub bound : j ≤ n
+pub record WritingRound (w : List ℕ) (i : ℕ) (qs out₀ out : List ℕ) (j : ℕ) : Type 0 where
+  pub bound : j ≤ length qs
   pub long : length out ≡ length out₀
   pub lines : out ≡ lines_into (map (line_after w i) (take j qs)) out₀
 
-pub writing_none : {w : List ℕ} {i n : ℕ} {qs out : List ℕ} {j : ℕ} → j ≡ 0 → WritingRound w i n qs out out j
+pub writing_none : {w : List ℕ} {i : ℕ} {qs out : List ℕ} {j : ℕ} → j ≡ 0 → WritingRound w i qs out out j
 unfolding screen_bytes
 writing_none z = rw z (record { bound = omega arith; long = refl; lines = refl })
 
-module _ {w : List ℕ} {i n : ℕ} {qs out₀ out : List ℕ} {j : ℕ} (l : length qs ≡ numbers) (few : n ≤ numbers) (room : screen_line_length * n ≤ length out₀)
-    (h : j < n) (p : WritingRound w i n qs out₀ out j) where
+module _ {w : List ℕ} {i : ℕ} {qs out₀ out : List ℕ} {j : ℕ} (room : screen_line_length * length qs ≤ length out₀) (h : j < length qs)
+    (p : WritingRound w i qs out₀ out j) where
   -- the part of the next line
   abbrev at : ℕ
   at = screen_line_length * j
@@ -51,7 +51,7 @@ module _ {w : List ℕ} {i n : ℕ} {qs out₀ out : List ℕ} {j : ℕ} (l : le
 
   pub writing_more : {q s c : ℕ} {part : List ℕ} → q ≡ get_or qs j 0 → line_with s c ≡ listed_at w q i
       → part ≡ screen_line_bytes (record { number = q; entry = line_with s c })
-      → WritingRound w i n qs out₀ (put_mid at size out part) (j + 1)
+      → WritingRound w i qs out₀ (put_mid at size out part) (j + 1)
   unfolding screen_bytes big_bytes
   writing_more {q} {s} {c} {part} is entry bytes =
       let ps : List ScreenLine = map (line_after w i) (take j qs) in
@@ -70,6 +70,10 @@ module _ {w : List ℕ} {i n : ℕ} {qs out₀ out : List ℕ} {j : ℕ} (l : le
         long = ap length lines ∙ lines_length (map (line_after w i) (take (j + 1) qs)) out₀ (simp (length-map, length-take) (omega arith));
         lines = lines;
       }
+
+pub writing_all : {w : List ℕ} {i : ℕ} {qs out₀ out : List ℕ} {j : ℕ} → length qs ≤ j → WritingRound w i qs out₀ out j
+    → out ≡ lines_into (map (line_after w i) qs) out₀
+writing_all {w} {i} {qs} {out₀} {j = j} h p = p.lines ∙ ap (λ (l : List ℕ). lines_into (map (line_after w i) l) out₀) (take_all j qs h)
 
 -- ---- round after round
 
@@ -153,13 +157,14 @@ module _ {w : List ℕ} {B : ℕ} {out₀ out : List ℕ} {ns ns' : List ℕ} {c
   waiting : (q : ℕ) → In q (take count' ns') → waits w i q ≡ true
   waiting q m = (select_in (waits w i) q (take count ns) (subst (In q) left.right m)).1
 
-  pub still : (j : ℕ) → j < n → (get_or ns' j 0 < numbers) × (i < length (keys w (get_or ns' j 0)))
-  still j k =
+  pub still : (j : ℕ) → j < length (take n ns') → (get_or (take n ns') j 0 < numbers) × (i < length (keys w (get_or (take n ns') j 0)))
+  still j h =
+      let k : j < n = omega (arith, simp length-take at h) in
       let within : j < count' = omega arith in
       let member : In (get_or ns' j 0) (take count' ns') =
       subst (λ (q : ℕ). In q (take count' ns')) (get_or-take count' ns' j 0 within)
       (in_get_d 0 (take count' ns') j (simp length-take (omega (arith, left.known.long, left.known.most)))) in
-      (left.known.below j within, ltb-true i (length (keys w (get_or ns' j 0))) (waiting (get_or ns' j 0) member))
+      rw (get_or-take n ns' j 0 k) (left.known.below j within, ltb-true i (length (keys w (get_or ns' j 0))) (waiting (get_or ns' j 0) member))
 
   abbrev lines : List ScreenLine
   lines = map (line_after w i) (take n ns')
@@ -213,7 +218,7 @@ module _ {w : List ℕ} {B : ℕ} {out₀ out : List ℕ} {ns ns' : List ℕ} {c
       }
 
 -- lines or entries have ended: all rounds are over, or all lines are placed, or no query waits
-pub sharing_all : {w : List ℕ} {B : ℕ} {out₀ out ns : List ℕ} {count placed i : ℕ} → (most_listed ≤ i) ⊎ ((B ≤ placed) ⊎ (count ≤ 0))
+pub sharing_all : {w : List ℕ} {B : ℕ} {out₀ out ns : List ℕ} {count placed i : ℕ} → (most_listed ≤ i) ⊎ ((B ≤ placed) ⊎ (count ≡ 0))
     → Sharing w B out₀ out ns count placed i → Shared w B out₀ placed out
 sharing_all {w} {B} {out₀} {out} {ns} {count} {placed} {i} end p =
     let none : screen (B - placed) (map (queue_after w i) (take count ns)) ≡ [] =
@@ -224,5 +229,5 @@ sharing_all {w} {B} {out₀} {out} {ns} {count} {placed} {i} end p =
     no_lines : B ≤ placed → screen (B - placed) (map (queue_after w i) (take count ns)) ≡ []
     no_lines h = let z : B - placed ≡ 0 = omega arith in rw z (screen_zero (map (queue_after w i) (take count ns)))
 
-    no_query : count ≤ 0 → screen (B - placed) (map (queue_after w i) (take count ns)) ≡ []
-    no_query h = let z : count ≡ 0 = omega arith in rw z (screen_nobody (B - placed))
+    no_query : count ≡ 0 → screen (B - placed) (map (queue_after w i) (take count ns)) ≡ []
+    no_query z = rw z (screen_nobody (B - placed))

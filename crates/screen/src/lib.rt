@@ -1,9 +1,8 @@
 // One screen for all queries: its lines go out in rounds, one for each query that has an entry left.
 #![tactic(auto)]
 
-ghost use Rattle.std.specs.Prelude.{◌≡◌, [], ◌∷◌, map, ℕ, ◌*◌, ◌<◌, ◌≤◌, length, get_or, take};
+ghost use Rattle.std.specs.Prelude.{◌≡◌, [], ◌∷◌, map, ℕ, ◌*◌, ◌<◌, ◌≤◌, length, get_or};
 ghost use Rattle.paper.specs.Frame.{numbers};
-ghost use Rattle.paper.specs.Layout.{state_length};
 ghost use Rattle.paper.specs.Screen.{upward, most_screen_lines, screen_line_length};
 ghost use Rattle.memory.specs.Words.{words, big_bytes};
 ghost use Rattle.rank.specs.Listing.{line_with};
@@ -23,10 +22,8 @@ fn put_numbers(queries: &mut [u8])
     requires { length queries.old ≡ numbers }
     ensures { queries.new ≡ upward 0 numbers }
 {
-    let mut q: usize = 0;
-    while q < NUMBERS {
-        queries[q] = q as u8;
-        q += 1;
+    for (q, number) in queries.iter_mut().enumerate() {
+        *number = q as u8;
     }
 }
 
@@ -36,14 +33,12 @@ fn with_entry(state: &State, queries: &mut [u8], count: usize, i: usize) -> usiz
     ensures { StillWaiting (words state.now) i queries.old count queries.new result }
 {
     let mut n: usize = 0;
-    let mut j: usize = 0;
-    while j < count {
+    for j in 0..count {
         let q = queries[j];
         if i < query::listed(state, q as usize) {
             queries[n] = q;
             n += 1;
         }
-        j += 1;
     }
     n
 }
@@ -66,20 +61,17 @@ fn put_line(out: &mut [u8], number: u8, serial: u32, score: u32)
     put_entry(&mut out[1..], serial, score);
 }
 
-// A line for each of the first n queries: that of the entry at place i of its list.
-fn put_round(state: &State, queries: &[u8], n: usize, i: usize, out: &mut [u8])
-    requires in_bounds { (length queries.now ≡ numbers) × (n ≤ numbers) × (screen_line_length * n ≤ length out.old) }
-    requires by_index { (j : ℕ) → j < n → (get_or queries.now j 0 < numbers) × (i < length (keys (words state.now) (get_or queries.now j 0))) }
-    ensures { out.new ≡ lines_into (map (line_after (words state.now) i) (take n queries.now)) out.old }
+// A line for each of some queries: that of the entry at place i of its list.
+fn put_round(state: &State, queries: &[u8], i: usize, out: &mut [u8])
+    requires in_bounds { screen_line_length * length queries.now ≤ length out.old }
+    requires by_index { (j : ℕ) → j < length queries.now → (get_or queries.now j 0 < numbers) × (i < length (keys (words state.now) (get_or queries.now j 0))) }
+    ensures { out.new ≡ lines_into (map (line_after (words state.now) i) queries.now) out.old }
 {
-    let mut j: usize = 0;
-    while j < n {
-        let q = queries[j];
-        let shown = query::entry(state, q as usize, i);
+    for (j, q) in queries.iter().enumerate() {
+        let shown = query::entry(state, *q as usize, i);
         let at = LINE * j;
         let end = at + LINE;
-        put_line(&mut out[at..end], q, shown.serial, shown.score);
-        j += 1;
+        put_line(&mut out[at..end], *q, shown.serial, shown.score);
     }
 }
 
@@ -92,14 +84,15 @@ pub fn share(state: &State, lines: usize, out: &mut [u8]) -> usize
     put_numbers(&mut queries);
     let mut count = NUMBERS;
     let mut placed: usize = 0;
-    let mut i: usize = 0;
-    while i < MOST_LISTED && placed < lines && 0 < count {
+    for i in 0..MOST_LISTED {
+        if lines <= placed || count == 0 {
+            break;
+        }
         count = with_entry(state, &mut queries, count, i);
-        let n = window::lesser(count, lines - placed);
+        let n = count.min(lines - placed);
         let at = LINE * placed;
-        put_round(state, &queries, n, i, &mut out[at..]);
+        put_round(state, &queries[..n], i, &mut out[at..]);
         placed += n;
-        i += 1;
     }
     placed
 }

@@ -1,5 +1,5 @@
 -- `counts_in`'s loops. Assumes nothing.
-use Prim.Native.Nat.{ℕ, ◌-◌, ◌<◌, ◌≤◌}
+use Prim.Native.Nat.{ℕ, ◌<◌}
 use mathlib.Core.Path.{◌≡◌}
 use lib.ListN.{length, get_or}
 use Rattle.paper.specs.Frame.{most_terms}
@@ -9,9 +9,7 @@ use Rattle.closeness.specs.Post.{count_among}
 use Rattle.closeness.proofs.counts_in.Given as goal
 
 abbrev pub invariant-loop-i : goal.invariant-loop-i
-invariant-loop-i l = (l.i ≤ l.n)
-    × (length l.counts ≡ most_terms)
-    × ((p : ℕ) → p < l.i → get_or l.counts p 0 ≡ count_among (slot (words l.state) l.j).cells (get_or l.terms p 0))
-
-abbrev pub decreases-loop-i : goal.decreases-loop-i
-decreases-loop-i l = l.n - l.i
+invariant-loop-i l = record {
+  long : length l.counts ≡ most_terms;
+  filled : (p : ℕ) → p < l.i → get_or l.counts p 0 ≡ count_among (slot (words l.state) l.j).cells (get_or l.terms p 0);
+}

@@ -10,18 +10,17 @@ loop-i-init c = sharing_none refl refl refl c.put_numbers.ensures
 
 pub put_round-requires-clause-by_index : goal.put_round-requires-clause-by_index
 put_round-requires-clause-by_index c =
-    still c.requires.2 (omega arith) c.with_entry-count.ensures c.lesser-n.ensures c.loop-i.invariant
+    still c.requires.1 (omega arith) c.with_entry-count.ensures c.min-n.ensures c.loop-i.invariant
 
 pub loop-i-preserved : goal.loop-i-preserved
 loop-i-preserved c =
-    sharing_more c.requires.2 (omega arith) c.with_entry-count.ensures c.lesser-n.ensures c.loop-i.invariant
+    sharing_more c.requires.1 (omega arith) c.with_entry-count.ensures c.min-n.ensures c.loop-i.invariant
     c.put_round.ensures
 
-pub returns-else-count-gt0 : goal.returns-else-count-gt0
-returns-else-count-gt0 c = let l = c.loop-i in sharing_all (inr (inr c.if-count-gt0.false)) l.invariant
-
-pub returns-else-placed-lines : goal.returns-else-placed-lines
-returns-else-placed-lines c = sharing_all (inr (inl c.if-placed-lines.false)) c.loop-i.invariant
+pub returns-then-lines-placed : goal.returns-then-lines-placed
+returns-then-lines-placed c =
+    let p = c.loop-i.invariant in
+    elim c.then-lines-placed.either [ inl h ↦ sharing_all (inr (inl h)) p | inr h ↦ sharing_all (inr (inr h.1)) p ]
 
 pub returns-after-loop-i : goal.returns-after-loop-i
 returns-after-loop-i c = sharing_all (inl (omega arith)) c.loop-i.invariant

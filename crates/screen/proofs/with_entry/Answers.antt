@@ -11,7 +11,7 @@ loop-j-init c = choosing_none (omega arith) (omega arith) (search rules)
 
 pub loop-j-preserved : goal.loop-j-preserved
 loop-j-preserved c =
-    let known = c.requires.1 in
+    let known = c.requires in
     let e = c.listed.ensures.1 in
     elim c.if-i-listed.branch [
       | then-i-listed w ↦ rw (w.queries-is, w.n-is) (choosing_kept known (omega arith) refl c.loop-j.invariant (omega arith))
