@@ -1,14 +1,13 @@
 // The window: a ring of message slots in the state memory, and the cursor that says which of them fill a place.
 #![tactic(auto)]
 
-ghost use Rattle.std.specs.Prelude.{◌≡◌, ℕ, ◌+◌, ◌*◌, ◌-◌, ◌%◌, ◌^◌, ◌<◌, ◌≤◌, min, max, false, ◌||◌, length, get_or};
-ghost use Rattle.std.specs.Prelude.{MatchOption};
+ghost use Rattle.std.specs.Prelude.{◌≡◌, ℕ, ◌+◌, ◌-◌, ◌^◌, ◌<◌, ◌≤◌, false, length, get_or, MatchOption};
 ghost use Rattle.std.specs.Iterator.{at_most};
 ghost use Rattle.paper.specs.Frame.{level, urgency_of, term_width, count_width, most_pairs, most_terms};
 ghost use Rattle.paper.specs.Frame.Urgency.{vital};
 ghost use Rattle.paper.specs.Window.{past};
 ghost use Rattle.paper.specs.Write.{side_by_side};
-ghost use Rattle.paper.specs.Layout.{slots, state_words, state_length};
+ghost use Rattle.paper.specs.Layout.{slots, state_words};
 ghost use Rattle.memory.specs.Words.{words};
 ghost use Rattle.memory.specs.Keeps.{Stored};
 ghost use Rattle.impact.specs.Cell.{most_squares, cell_count, cells_of, cell_squares, cell_with, lookup};
@@ -302,7 +301,8 @@ pub fn has_serial(state: &State, first: usize, count: usize, serial: u32) -> boo
     if end <= layout::SLOTS {
         return serial_among(state, first, end, serial);
     }
-    serial_among(state, first, layout::SLOTS, serial) | serial_among(state, 0, end - layout::SLOTS, serial)
+    serial_among(state, first, layout::SLOTS, serial)
+        | serial_among(state, 0, end - layout::SLOTS, serial)
 }
 
 // The slot of the first of the `count` messages from slot `first` on that has the serial, slot by slot; none where none has.
@@ -405,17 +405,15 @@ pub fn put_message(
 )
     requires in_bounds { (j < slots) × (urgency ≤ level vital) × (m ≤ most_pairs) }
     requires fit { (i : ℕ) → i < m → (get_or terms i 0 < 2 ^ term_width) × (get_or counts i 0 < 2 ^ count_width) }
-    ensures {
-        Written j
-            (record {
-              time = time;
-              serial = serial;
-              urgency = urgency_of urgency;
-              pairs = side_by_side m terms counts;
-              cancelled = false;
-            })
-            (words state.old) (words state.new)
-    }
+    ensures { Written j
+        (record {
+          time = time;
+          serial = serial;
+          urgency = urgency_of urgency;
+          pairs = side_by_side m terms counts;
+          cancelled = false;
+        })
+        (words state.old) (words state.new) }
 {
     memory::put(state, layout::SLOT_TIMES + j, time);
     memory::put(state, layout::SLOT_SERIALS + j, serial);
