@@ -213,8 +213,8 @@ pub record WithNewest (w : List ℕ) (newest came k least : ℕ) (l r : Ranked) 
   pub list_is : l.count ≤ k
       → keyed_of r
       ≡ cond (ltb newest slots && leb least (key_in w newest came))
-            (grown k (keyed_with (slot w newest).serial (key_in w newest came)) (keyed_of l))
-            (keyed_of l)
+      (grown k (keyed_with (slot w newest).serial (key_in w newest came)) (keyed_of l))
+      (keyed_of l)
 
 -- A change of the window from n slots from slot o on, as memory was in w₀, to what the move says, as it is in w: `aa` were in force, `ga` go, `sa` stay,
 -- `ca` come.

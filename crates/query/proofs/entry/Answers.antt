@@ -2,7 +2,7 @@
 use native.Mathlib.Omega.{arith}
 use Rattle.memory.specs.Words.{words}
 use Rattle.memory.proofs.WordLaws.{words_length}
-use Rattle.query.proofs.PlaceLaws.{keys_most, entry_is}
+use Rattle.query.proofs.PlaceLaws.{entry_is}
 use Rattle.query.proofs.entry.Goals as goal
 
 pub returns : goal.returns

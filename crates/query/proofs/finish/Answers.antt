@@ -1,7 +1,6 @@
 -- `finish` meets its contract. Assumes nothing.
 use mathlib.Core.Path.{◌≡◌}
 use lib.ListN.{length}
-use native.Mathlib.Omega.{arith}
 use borrow.Author.Rules.{rules}
 use Rattle.query.proofs.SettleLaws.{Sixteen, sifted_exact, finished}
 use Rattle.query.proofs.finish.Goals as goal
