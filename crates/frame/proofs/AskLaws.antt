@@ -62,7 +62,8 @@ module _ (s : List ℕ) where
       let P : Shape → Type 0 = λ x. refused 2 ≡ asked_of (λ r. 2) x in
       by_frame P k (λ r. refl)
       (λ vs ps. by_test P (eqb k 1) (λ _. refl) (λ _. by_test P (eqb k 2) (λ _. refl) (λ _. rw other
-      (by_test P (eqb k 4) (λ _. refl) (λ _. by_test P (eqb k 5) (λ _. refl) (λ _. by_test P (eqb k 6) (λ _. refl) (λ _. by_test P (eqb k 7) (λ _. refl) (λ _. refl))))))))
+      (by_test P (eqb k 4) (λ _. refl) (λ _. by_test P (eqb k 5) (λ _. refl) (λ _. by_test P (eqb k 6) (λ _. refl)
+      (λ _. by_test P (eqb k 7) (λ _. refl) (λ _. refl))))))))
 
   asked_shape : asked s ≡ asked_of (asked_number s) (shape s)
   unfolding asked shape asked_number

@@ -18,7 +18,8 @@ use Rattle.wire.proofs.BitLaws.{length_bits}
 use Rattle.wire.proofs.FieldLaws.{field_lt}
 use Rattle.wire.proofs.LayoutLaws.{total_append, scan_append, spell_append}
 use Rattle.paper.specs.Frame.{Pair, Urgency, Form, Field, Fields, Row as TableRow, urgency_of, kind_of, grade_of, kind_width, width, widths, row_of, values_at}
-use Rattle.paper.specs.Frame.{pairs_by, message_row, tick_row, register_row, unregister_row, cancel_row, graded_by, no_row, grade_known, grades_known, frame_of, term_width, pairs_width, long_pairs_width, most_pairs}
+use Rattle.paper.specs.Frame.{pairs_by, message_row, tick_row, register_row, unregister_row, cancel_row, graded_by, no_row, grade_known, grades_known}
+use Rattle.paper.specs.Frame.{frame_of, term_width, pairs_width, long_pairs_width, most_pairs}
 use Rattle.paper.specs.Frame.Field.{plain, less_one as lessOneField, grade}
 use Rattle.paper.specs.Frame.Form.{graded, long}
 use Rattle.paper.specs.Frame.Frame.{message}
@@ -184,7 +185,8 @@ unfolding row_of frame_of
 graded_kind k h l = go (eqb k 6) refl
   where
     go : (b : Bool) → eqb k 6 ≡ b → GradedKind k
-    go true e = rw (eqb-true k 6 e) (record { width = pairs_width; small = lit≤ tt; form = graded; row = refl; frame = λ vs ps. refl; grade = λ u. (refl, refl) })
+    go true e =
+        rw (eqb-true k 6 e) (record { width = pairs_width; small = lit≤ tt; form = graded; row = refl; frame = λ vs ps. refl; grade = λ u. (refl, refl) })
     go false e =
         let seven : k ≡ 7 = let n = eqb-false k 6 e in omega arith in
         rw seven (record { width = long_pairs_width; small = lit≤ tt; form = long; row = refl; frame = λ vs ps. refl; grade = λ u. (refl, refl) })

@@ -63,8 +63,10 @@ pack_over (suc n) (y ∷ s) (x ∷ t) bs l h k hs ht e =
     sym (take_at (bits 8 x) (unpack t) 8 (length_bits 8 x)) ∙ ap (take 8) e ∙ take-append-le 8 bs rest (omega arith) in
     let j-is : 8 * suc n ≡ 8 + 8 * n = omega arith in
     let past : rest ≡ drop (8 * n) (unpack s) =
-    ap (λ (j : ℕ). drop j (bits 8 y ++ unpack s)) j-is ∙ sym (drop-drop (8 * n) 8 (bits 8 y ++ unpack s)) ∙ ap (drop (8 * n)) (drop_at (bits 8 y) (unpack s) 8 (length_bits 8 y)) in
+    ap (λ (j : ℕ). drop j (bits 8 y ++ unpack s)) j-is ∙ sym (drop-drop (8 * n) 8 (bits 8 y ++ unpack s))
+    ∙ ap (drop (8 * n)) (drop_at (bits 8 y) (unpack s) 8 (length_bits 8 y)) in
     let t-is : unpack t ≡ drop 8 bs ++ drop (8 * n) (unpack s) =
-    sym (drop_at (bits 8 x) (unpack t) 8 (length_bits 8 x)) ∙ ap (drop 8) e ∙ drop-append-le 8 bs rest (omega arith) ∙ ap (λ (r : List Bool). drop 8 bs ++ r) past in
+    sym (drop_at (bits 8 x) (unpack t) 8 (length_bits 8 x)) ∙ ap (drop 8) e ∙ drop-append-le 8 bs rest (omega arith)
+    ∙ ap (λ (r : List Bool). drop 8 bs ++ r) past in
     ap₂ {C = List ℕ} (λ a b. a ∷ b) (sym (num_of 8 x (ht 0)) ∙ ap num x-is)
     (pack_over n s t (drop 8 bs) (suc_inj l) (le_of_suc-le-suc h) (length-drop 8 bs ∙ omega arith) (λ i. hs (suc i)) (λ i. ht (suc i)) t-is)

@@ -105,8 +105,9 @@ module _ (s head : List ℕ) (w m : ℕ) (known : Bool) where
         ≡ cond (eqb (check_number s (total head) w m known) 0) (make (pairs_at s (total head) w m)) (refused (check_number s (total head) w m known))
     unfolding check check_number fit_number pairs_number
     check_by =
-        outcome (make (pairs_at s (total head) w m)) (eqb (length s) (bytes_for (bits_of head w m))) (eqb (field s (bits_of head w m) (fill_after (bits_of head w m))) 0)
-        known (positive (pairs_at s (total head) w m)) (rising (pairs_at s (total head) w m))
+        outcome (make (pairs_at s (total head) w m)) (eqb (length s) (bytes_for (bits_of head w m)))
+        (eqb (field s (bits_of head w m) (fill_after (bits_of head w m))) 0) known
+        (positive (pairs_at s (total head) w m)) (rising (pairs_at s (total head) w m))
 
     pub read_refused : (e : Refusal) → CheckedPost s (total head) w m known (Err e) → check s head w m known make ≡ refused (number_of e)
     read_refused e post = rw (check_by, ← post.0, ne_eqb (number_of e) 0 (refusal_pos e))

@@ -54,7 +54,8 @@ length_padded (suc n) [] = ap suc (length_padded n [])
 length_padded (suc n) (x ∷ xs) = ap suc (length_padded n xs)
 
 -- the pairs are found in their arrays again, however long
-pub beside_padded : (n : ℕ) (ps : List Pair) → length ps ≤ n → side_by_side (length ps) (padded n (map (λ p. p.term) ps)) (padded n (map (λ p. p.amount) ps)) ≡ ps
+pub beside_padded : (n : ℕ) (ps : List Pair) → length ps ≤ n
+    → side_by_side (length ps) (padded n (map (λ p. p.term) ps)) (padded n (map (λ p. p.amount) ps)) ≡ ps
 unfolding side_by_side
 beside_padded n [] h = refl
 beside_padded zero (p ∷ ps) h = absurd (not-suc-le-zero h)

@@ -60,7 +60,8 @@ length_pair_bits w (suc n) [] us h k = absurd (not-suc-le-zero h)
 length_pair_bits w (suc n) (t ∷ ts) [] h k = absurd (not-suc-le-zero k)
 length_pair_bits w (suc n) (t ∷ ts) (u ∷ us) h k =
     length-append (bits term_width t) (bits w u ++ pair_bits w n ts us)
-    ∙ omega (arith, length_bits term_width t, length-append (bits w u) (pair_bits w n ts us), length_bits w u, length_pair_bits w n ts us (le_of_suc-le-suc h) (le_of_suc-le-suc k), suc-mul n (term_width + w))
+    ∙ omega (arith, length_bits term_width t, length-append (bits w u) (pair_bits w n ts us), length_bits w u,
+        length_pair_bits w n ts us (le_of_suc-le-suc h) (le_of_suc-le-suc k), suc-mul n (term_width + w))
 
 -- one pair more
 pair_bits_more : (w i : ℕ) (ts us : List ℕ) → i < length ts → i < length us
@@ -75,8 +76,8 @@ pair_bits_more w (suc i) (t ∷ ts) (u ∷ us) h k =
 
 -- a turn of the loop that puts them: t is the output before it, u with the term, v with the amount too
 pub put_turn : (s t u v ts us : List ℕ) (at w i next : ℕ) → at ≤ 8 * length s → i < length ts → i < length us → next ≡ at + i * (term_width + w)
-    → unpack t ≡ laid s at (pair_bits w i ts us) → unpack u ≡ placed t next term_width (get_or ts i 0) → unpack v ≡ placed u (next + term_width) w (get_or us i 0)
-    → unpack v ≡ laid s at (pair_bits w (i + 1) ts us)
+    → unpack t ≡ laid s at (pair_bits w i ts us) → unpack u ≡ placed t next term_width (get_or ts i 0)
+    → unpack v ≡ placed u (next + term_width) w (get_or us i 0) → unpack v ≡ laid s at (pair_bits w (i + 1) ts us)
 put_turn s t u v ts us at w i next h ht hu n et eu ev =
     let p : List Bool = pair_bits w i ts us in
     let a : List Bool = bits term_width (get_or ts i 0) in
@@ -113,7 +114,9 @@ module _ (head values ts us : List ℕ) (w n : ℕ) (lh : length head ≡ length
   frame_bits = spell head values ++ pair_bits w n ts us ++ bits (fill_after (bits_of head w n)) 0
 
   before_fill : length (spell head values ++ pair_bits w n ts us) ≡ bits_of head w n
-  before_fill = length-append (spell head values) (pair_bits w n ts us) ∙ ap₂ (λ (x y : ℕ). x + y) (spell_length head values lh) (length_pair_bits w n ts us ht hu)
+  before_fill =
+      length-append (spell head values) (pair_bits w n ts us)
+      ∙ ap₂ (λ (x y : ℕ). x + y) (spell_length head values lh) (length_pair_bits w n ts us ht hu)
 
   -- they are whole bytes
   length_frame_bits : length frame_bits ≡ 8 * bytes_for (bits_of head w n)
@@ -124,7 +127,8 @@ module _ (head values ts us : List ℕ) (w n : ℕ) (lh : length head ≡ length
   -- what they pack to is the frame
   frame_bytes : pack (bytes_for (bits_of head w n)) frame_bits ≡ written head w values (side_by_side n ts us)
   unfolding pair_bits written
-  frame_bytes = rw (length_side n ts us ht hu, spell_frame head values w (fill_after (bits_of head w n)) n (side_by_side n ts us) lh (length_side n ts us ht hu))
+  frame_bytes =
+      rw (length_side n ts us ht hu, spell_frame head values w (fill_after (bits_of head w n)) n (side_by_side n ts us) lh (length_side n ts us ht hu))
 
   -- a head of any fields, the pairs and the fill, written one after the other over s, are the frame and what stood past it
   pub puts : (s t u v : List ℕ) → bytes_for (bits_of head w n) ≤ length s → length v ≡ length s → Bytes s → Bytes v

@@ -33,8 +33,3 @@ unfolding fitting
 returns c =
     let a = c.args in
     rw (drop_all c.loop-i.i a.widths.now (omega arith)) at c.loop-i.invariant
-
-pub overflow_shl-widths : goal.overflow_shl-widths
-overflow_shl-widths c =
-    let narrow = narrow_at c.args.widths.now c.loop-i.i c.requires.1 in
-    omega arith

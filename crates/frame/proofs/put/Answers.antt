@@ -30,6 +30,7 @@ returns c =
     let e : a.row.bits ≡ total (kind_width ∷ ws) = c.requires.bits_value.0 in
     rw (c.put_fill.ensures.0, e)
     (puts (kind_width ∷ ws) (a.kind ∷ vs) a.terms.now a.amounts.now a.row.amount a.pairs (ap suc same) c.requires.amount_bound.1 c.requires.amount_bound.2
-    s t₂ c.put_pairs.new.out c.put_fill.new.out (rw e at c.requires.amount_bound_2.1) (omega arith) (λ i. (c.slice_known-1.given i).fits) (λ i. (c.slice_known-5-1.given i).fits)
+    s t₂ c.put_pairs.new.out c.put_fill.new.out (rw e at c.requires.amount_bound_2.1) (omega arith)
+    (λ i. (c.slice_known-1.given i).fits) (λ i. (c.slice_known-5-1.given i).fits)
     (head_laid s c.put_bits.new.s t₂ ws vs a.kind c.put_bits.ensures c.put_fields.ensures)
     (rw e at c.put_pairs.ensures) (rw e at c.put_fill.ensures.1))

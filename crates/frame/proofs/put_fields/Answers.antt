@@ -29,7 +29,8 @@ loop-i-preserved c =
     let l = c.loop-i in
     let a = c.args in (
       omega (arith, total_more a.widths.now l.i (omega arith)),
-      fields_turn a.out.now l.out _ a.widths.now a.values a.at l.i l.next (omega arith) (omega arith) (omega arith) l.invariant.0 l.invariant.1 c.put_bits.ensures,
+      fields_turn a.out.now l.out _ a.widths.now a.values a.at l.i l.next (omega arith) (omega arith) (omega arith) l.invariant.0 l.invariant.1
+          c.put_bits.ensures,
     )
 
 pub returns : goal.returns

@@ -27,7 +27,8 @@ loop-i-preserved c =
     let l = c.loop-i in
     let a = c.args in (
       omega (arith, total_more a.widths.now l.i (omega arith)),
-      values_turn a.bytes.now a.at a.widths.now l.values l.i l.next c.take_bits.result (omega arith) (omega arith) l.invariant.0 l.invariant.1 c.take_bits.ensures,
+      values_turn a.bytes.now a.at a.widths.now l.values l.i l.next c.take_bits.result (omega arith) (omega arith) l.invariant.0 l.invariant.1
+          c.take_bits.ensures,
     )
 
 pub returns : goal.returns

@@ -7,7 +7,8 @@ use mathlib.Core.List.{[]}
 use mathlib.Core.Path.{◌≡◌, refl, sym, ap, ◌∙◌}
 use Rattle.paper.specs.Frame.{pairs_at, positive}
 use Rattle.frame.specs.Read.{pairs_number, verdict}
-use Rattle.frame.proofs.PairLaws.{PairRead, judged_from, judged_all, counted, positive_all, pair_room, pair_next, pair_read, array_turn, number_turn, pairs_none}
+use Rattle.frame.proofs.PairLaws.{PairRead, judged_from, judged_all, counted, positive_all, pair_room, pair_next, pair_read, array_turn, number_turn}
+use Rattle.frame.proofs.PairLaws.{pairs_none}
 use Rattle.frame.proofs.ReadLaws.{passed_on}
 use Rattle.frame.proofs.take_pairs.Goals.{After-low_bits-amount, After-loop-i}
 use Rattle.frame.proofs.take_pairs.Goals as goal
