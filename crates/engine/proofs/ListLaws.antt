@@ -8,7 +8,7 @@ use mathlib.Core.Option.{Option, none, some}
 use lib.ListN.{length}
 use borrow.Author.Tests.{eq-eqb}
 use Rattle.std.specs.Prelude.{Ok, Err}
-use Rattle.paper.specs.declared.refusal.Refusal.TheVariants.{NotInUse}
+use Rattle.paper.specs.declared.refusal.Refusal.TheVariants.{NotInUse, Memory}
 use Rattle.paper.specs.Frame.{numbers}
 use Rattle.paper.specs.Rank.{Query, ranking, lines}
 use Rattle.paper.specs.Layout.{state_length}
@@ -34,6 +34,15 @@ unlisted ms none e = refl
 unlisted ms (some q) e = absurd (true≢false e)
 
 module _ (s : List ℕ) (n : ℕ) where
+  pub list_not_lent : (length s ≡ state_length → ⊥) → ListPost s n (told_list (Err Memory))
+  list_not_lent h = record {
+    not_lent = λ _. refl;
+    no_number = λ l _. absurd (h l);
+    most = omega arith;
+    refused = λ _. (no_entry_listed, no_entry_tidy);
+    right = λ log r l. absurd (h l);
+  }
+
   module _ (long : length s ≡ state_length) where
     judged : (log : Log) {b : Bool} → is_in_use (query_at log n) ≡ b → judge_list 0 log (length s) 0 n ≡ cond b 0 10
     unfolding judge_list

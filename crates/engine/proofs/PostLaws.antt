@@ -10,7 +10,6 @@ use lib.Dec.{eqb}
 use borrow.Author.Tests.{eq-eqb, ne_eqb, eqb-true, eqb-false}
 use Rattle.std.specs.Prelude.{Result, Ok, Err}
 use Rattle.paper.specs.declared.refusal.Refusal.{Refusal}
-use Rattle.paper.specs.declared.refusal.Refusal.TheVariants.{Memory}
 use Rattle.paper.specs.Refusal.{number_of}
 use Rattle.paper.specs.Frame.{Frame, Shape, Valid, shape, numbers}
 use Rattle.paper.specs.Frame.Shape.{refused, accepted}
@@ -68,16 +67,6 @@ refused_right s bytes x log rep e =
           (sym (log_after s bytes log (number_of x) e ∙ ap (λ (b : Bool). cond b (accept_shape log (shape bytes)) log) no)) rep;
       untouched = λ q h m. (refl, refl);
     }
-
--- 12
-pub not_lent : (s bytes : List ℕ) → (length s ≡ state_length → ⊥) → FramePost s bytes (told_reply (Err Memory)) s
-not_lent s bytes ne = record {
-  long = refl;
-  not_lent = λ h. refl;
-  shaped = λ l n e. absurd (ne l);
-  unchanged = λ h. (refl, refl, refl);
-  right = λ log rep l. absurd (ne l);
-}
 
 -- 1 to 6 and 14
 pub misshapen : (s bytes : List ℕ) (x : Refusal) → length s ≡ state_length → shape bytes ≡ refused (number_of x)

@@ -126,12 +126,13 @@ module _ (N T : ℕ) (s : List ℕ) where
     }
 
     -- zeros, then N, then T
-    pub start_right : length s ≡ state_length → StartPost N T s 0 (put_word (put_word (zeros state_length) capacity_at N) life_at T)
+    pub start_right : length s ≡ state_length → {s₁ s₂ s₃ : List ℕ} → s₁ ≡ zeros state_length → s₂ ≡ put_word s₁ capacity_at N
+        → s₃ ≡ put_word s₂ life_at T → StartPost N T s 0 s₃
     unfolding fresh_memory
-    start_right l = record {
+    start_right l z n t = record {
       number = sym (judged N T (length s) (sym e) ∙ rw (eq-eqb (length s) state_length l) refl);
       unchanged = λ h. absurd (h refl);
-      started = λ _. refl;
+      started = λ _. rw (t, n, z) refl;
     }
 
 pub fresh_length : (N T : ℕ) → length (fresh_memory N T) ≡ state_length
