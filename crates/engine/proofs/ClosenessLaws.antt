@@ -9,6 +9,10 @@ use mathlib.Core.Option.{Option, none, some}
 use lib.ListN.{length, get_or, drop}
 use lib.Dec.{eqb}
 use borrow.Author.Tests.{eq-eqb, ne_eqb, eqb-true}
+use Rattle.std.specs.Prelude.{Ok, Err}
+use Rattle.paper.specs.declared.refusal.Refusal.{Refusal}
+use Rattle.paper.specs.declared.refusal.Refusal.TheVariants.{NotInForce, NotInUse}
+use Rattle.paper.specs.Refusal.{number_of}
 use Rattle.paper.specs.Frame.{Pairs, count_width, most_pairs, serial_width, numbers}
 use Rattle.paper.specs.Window.{Message}
 use Rattle.paper.specs.Rank as Rank
@@ -31,10 +35,11 @@ use Rattle.query.specs.Record.{HoldsAt}
 use Rattle.query.specs.Post.{LoadedQuery}
 use Rattle.closeness.specs.declared.Closeness.{Closeness}
 use Rattle.closeness.specs.Post as close
-use Rattle.engine.specs.declared.Compared.{Compared}
+use Rattle.engine.specs.Told.{told_closeness}
 use Rattle.engine.specs.Represents.{Represents, oldest_of, count_of}
 use Rattle.engine.specs.Inner.{registered_in}
 use Rattle.engine.specs.Post.{close_of, ClosenessPost}
+use Rattle.engine.proofs.ToldLaws.{not_0}
 use Rattle.engine.proofs.RepresentsLaws.{query_terms, registered_below, in_use}
 
 -- ---- the message with a serial
@@ -89,9 +94,6 @@ module _ (w : List ℕ) (s : ℕ) (small : s < 2 ^ serial_width) where
 
 -- ---- refused
 
-abbrev Uncompared : ℕ → Compared → Type 0
-Uncompared k x = (x.number ≡ k) × (x.quotient ≡ 0) × (x.remainder ≡ 0)
-
 module _ (s : List ℕ) (serial n : ℕ) where
   module _ (long : length s ≡ state_length) where
     -- by whether the serial is in force and the number in use
@@ -100,34 +102,31 @@ module _ (s : List ℕ) (serial n : ℕ) where
     unfolding judge_closeness
     judged log e f = rw (eq-eqb (length s) state_length long, e, f) refl
 
-    refused : (x : Compared) {k : ℕ} → (k ≡ 13) ⊎ (k ≡ 10) → (2 ^ serial_width ≤ serial → k ≡ 13)
-        → ((log : Log) → Represents log (words s) → judge_closeness 0 log (length s) 0 serial n ≡ k) → Uncompared k x → ClosenessPost s serial n x
+    refused : (x : Refusal) → (number_of x ≡ 13) ⊎ (number_of x ≡ 10) → (2 ^ serial_width ≤ serial → number_of x ≡ 13)
+        → ((log : Log) → Represents log (words s) → judge_closeness 0 log (length s) 0 serial n ≡ number_of x)
+        → ClosenessPost s serial n (told_closeness (Err x))
     unfolding closeness_in
-    refused x {k} either above by z = record {
+    refused x either above by = record {
       not_lent = λ h. absurd (h long);
-      no_serial = λ _ h. z.0 ∙ above h;
-      no_number = λ _ _. subst (λ (m : ℕ). (m ≡ 13) ⊎ (m ≡ 10)) (sym z.0) either;
-      most = rw z.1 (omega arith);
-      refused = λ _. (z.1, z.2);
-      right = λ log r _.
-          let j = by log r in (
-            z.0 ∙ sym j,
-            rw (j, ne_eqb k 0 (λ e. ⊎_elim (λ a. omega arith) (λ a. omega arith) either)) (λ i. record { quotient = z.1 i; remainder = z.2 i }),
-          );
+      no_serial = λ _ h. above h;
+      no_number = λ _ _. either;
+      most = omega arith;
+      refused = λ _. (refl, refl);
+      right = λ log r _. let j = by log r in (sym j, rw (j, not_0 x) refl);
     }
 
     -- no message in force has the serial
-    unknown : (x : Compared) → ((log : Log) → Represents log (words s) → has_serial serial (in_force_now log) ≡ false) → Uncompared 13 x
-        → ClosenessPost s serial n x
-    unknown x absent z = refused x (inl refl) (λ _. refl) (λ log r. judged log (absent log r) refl) z
+    unknown : ((log : Log) → Represents log (words s) → has_serial serial (in_force_now log) ≡ false)
+        → ClosenessPost s serial n (told_closeness (Err NotInForce))
+    unknown absent = refused NotInForce (inl refl) (λ _. refl) (λ log r. judged log (absent log r) refl)
 
     -- it is none that a frame could say
-    pub closeness_above : (x : Compared) → 2 ^ serial_width ≤ serial → Uncompared 13 x → ClosenessPost s serial n x
-    closeness_above x h z = unknown x (λ log r. none_above serial (in_force_now log) (in_force_valid log r.sound) h) z
+    pub closeness_above : 2 ^ serial_width ≤ serial → ClosenessPost s serial n (told_closeness (Err NotInForce))
+    closeness_above h = unknown (λ log r. none_above serial (in_force_now log) (in_force_valid log r.sound) h)
 
     -- ---- looked for in the window
 
-    module _ (small : serial < 2 ^ serial_width) {clock o c j : ℕ} (l : Loaded (words s) clock o c) (is : j ≡ seek (words s) serial (ring o c)) where
+    module _ (small : serial < 2 ^ serial_width) {clock o c : ℕ} (l : Loaded (words s) clock o c) where
       module _ (log : Log) (r : Represents log (words s)) where
         shows : map (slot (words s)) (ring o c) ≡ map held (filled_now log)
         shows = rw (l.oldest_is r.oldest_below, l.count_is r.count_below) r.shows
@@ -140,39 +139,35 @@ module _ (s : List ℕ) (serial n : ℕ) where
         has_it = rw (shows, in_force_is) (holds_serial_lem serial small (filled_now log) (filled_valid log log.clock r.sound))
 
       -- no slot has it
-      pub closeness_unknown : (x : Compared) → slots ≤ j → Uncompared 13 x → ClosenessPost s serial n x
-      closeness_unknown x h z =
-          unknown x
+      pub closeness_unknown : seek (words s) serial (ring o c) ≡ slots → ClosenessPost s serial n (told_closeness (Err NotInForce))
+      closeness_unknown h =
+          unknown
           (λ log r.
           ⊎_elim (λ p. sym (has_it log r) ∙ p.1)
           (λ p. let low = (in_ring_lem o c (seek (words s) serial (ring o c)) l.oldest_below (found_in p.0)).0 in absurd (omega arith))
           (seek_cases (words s) serial (ring o c)))
-          z
 
       -- a slot has it
-      module _ (below : j < slots) where
+      module _ {j : ℕ} (is : (seek (words s) serial (ring o c) ≡ j) × (j < slots)) where
         there : (log : Log) → Represents log (words s) → Sought (slot (words s) j) serial (in_force_now log)
         there log r =
-            ⊎_elim (λ p. absurd (omega (arith, p.0)))
-            (λ p. rw (is, in_force_is log r) (sought (words s) serial small (ring o c) (filled_now log) (shows log r) (filled_valid log log.clock r.sound) p.1))
+            ⊎_elim (λ p. absurd (omega (arith, p.0, is.0, is.1)))
+            (λ p. rw (← is.0, in_force_is log r) (sought (words s) serial small (ring o c) (filled_now log) (shows log r) (filled_valid log log.clock r.sound) p.1))
             (seek_cases (words s) serial (ring o c))
 
-        module _ {b : Bool} (test : b ≡ registered_in (words s) n) where
+        module _ {b : Bool} (test : registered_in (words s) n ≡ b) where
           -- and no query is registered
-          pub closeness_unused : (x : Compared) → b ≡ false → Uncompared 10 x → ClosenessPost s serial n x
-          closeness_unused x e z =
-              refused x (inr refl) (λ h. absurd (omega arith)) (λ log r. judged log (there log r).there (in_use log (words s) n r ∙ sym test ∙ e)) z
+          pub closeness_unused : b ≡ false → ClosenessPost s serial n (told_closeness (Err NotInUse))
+          closeness_unused e =
+              refused NotInUse (inr refl) (λ h. absurd (omega arith)) (λ log r. judged log (there log r).there (in_use log (words s) n r ∙ test ∙ e))
 
           module _ (e : b ≡ true) {q : Query} {x : Closeness} (loaded : LoadedQuery (words s) n q) (compared : close.SlotCloseness (slot (words s) j) q x) where
             within : n < numbers
-            within = registered_below (words s) n (sym test ∙ e)
-
-            abbrev told : Compared
-            told = record { number = 0; quotient = x.quotient; remainder = x.remainder }
+            within = registered_below (words s) n (test ∙ e)
 
             exactly : (log : Log) → Represents log (words s) → (y : Option Rank.Query) → query_at log n ≡ y → is_in_use (query_at log n) ≡ true
                 → HoldsAt (words s) n (oldest_of (words s)) (count_of (words s)) (seen log) y
-                → (0 ≡ judge_closeness 0 log (length s) 0 serial n) × (close_of told ≡ closeness_in 0 log (length s) 0 serial n)
+                → (0 ≡ judge_closeness 0 log (length s) 0 serial n) × (close_of (told_closeness (Ok x)) ≡ closeness_in 0 log (length s) 0 serial n)
             unfolding closeness_in
             exactly log r none at u k = absurd (true≢false (sym u ∙ ap is_in_use at))
             exactly log r (some query) at u k =
@@ -182,7 +177,7 @@ module _ (s : List ℕ) (serial n : ℕ) where
                 let right = compared.right m.message query m.holds m.valid t (loaded.is query t k.says) in
                 (sym ok, rw (ok, at, m.pairs) right)
 
-            pub closeness_right : ClosenessPost s serial n told
+            pub closeness_right : ClosenessPost s serial n (told_closeness (Ok x))
             closeness_right = record {
               not_lent = λ h. absurd (h long);
               no_serial = λ _ h. absurd (omega arith);
@@ -190,5 +185,5 @@ module _ (s : List ℕ) (serial n : ℕ) where
               most = compared.most;
               refused = λ h. absurd (h refl);
               right = λ log r _.
-                  exactly log r (query_at log n) refl (in_use log (words s) n r ∙ sym test ∙ e) (r.records n within);
+                  exactly log r (query_at log n) refl (in_use log (words s) n r ∙ test ∙ e) (r.records n within);
             }

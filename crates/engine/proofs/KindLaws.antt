@@ -23,6 +23,10 @@ use Rattle.window.specs.Cursor.{Loaded, Advanced, Roomy, Moved}
 use Rattle.window.proofs.RingLaws.{moved_below, moved_trans}
 use Rattle.window.proofs.WalkLaws.{Found, found_in, seek_cases}
 use Rattle.window.proofs.LogLaws.{holds_serial_lem, advanced_shows, roomy_shows}
+use Rattle.std.specs.Prelude.{Ok, Err}
+use Rattle.paper.specs.declared.refusal.Refusal.{Refusal}
+use Rattle.paper.specs.declared.refusal.Refusal.TheVariants.{Serial, NotInForce}
+use Rattle.paper.specs.Refusal.{number_of}
 use Rattle.engine.specs.declared.Reply.{Reply}
 use Rattle.engine.specs.Represents.{oldest_of, count_of, Represents}
 use Rattle.engine.specs.Inner.{moving, Followed, Departed, Joined, Accepted, Ticked, Did}
@@ -73,7 +77,6 @@ module _ {t life clock o n clock' o' n' : ℕ} {w : List ℕ} (loaded : Loaded w
 pub ticked_by : {t life clock o n clock' o' n' : ℕ} {w w₃ : List ℕ} {reply : Reply}
     → Loaded w clock o n → life ≡ get_or w life_at 0 → Advanced w life o n t clock' o' n' → Departed clock' slots 0 o n o' n' w reply w₃ → Ticked t w reply w₃
 ticked_by {t} {o' = o'} {n'} {w} {w₃} {reply} loaded life-is adv d = record {
-  number = d.number;
   small = d.followed.passed.small;
   right = λ log r small late.
       let moved = moved_loaded loaded life-is adv log r in
@@ -87,17 +90,10 @@ ticked_by {t} {o' = o'} {n'} {w} {w₃} {reply} loaded life-is adv d = record {
 
 -- ---- refusals
 
--- the answer to a refused frame: its number, and nothing else
-abbrev pub Refusal : ℕ → Reply → Type 0
-Refusal n r = (r.number ≡ n) × (r.marks ≡ 0) × (r.departures ≡ 0)
-
 -- a frame refused by the history leaves the memory as it was
-pub refused_by : {s : List ℕ} {r : Reply} {n : ℕ} (f : Frame) → Refusal (suc n) r
-    → ((log : Log) → Represents log (words s) → Valid f → judge_frame log f ≡ suc n) → Did f s r s
-refused_by f e h = record {
-  unchanged = λ z. (refl, e.1, e.2);
-  right = λ log r v. (e.0 ∙ sym (h log r v), λ z. absurd (omega (arith, e.0)));
-}
+pub refused_by : {s : List ℕ} {e : Refusal} (f : Frame) → ((log : Log) → Represents log (words s) → Valid f → judge_frame log f ≡ number_of e)
+    → Did f s (Err e) s
+refused_by f h = record { unchanged = refl; right = λ log r v. (sym (h log r v), tt) }
 
 -- ---- a message
 
@@ -143,12 +139,11 @@ room_left {capacity} {clock} {o} {n} {clock'} {o'} {n'} cap r h = go (ltb n capa
     go false e false y = let k = ltb-false 0 n y in let m = r.moved.count_most in omega arith
 
 -- 8: "serial in force at the frame's time"
-pub known : {s : List ℕ} {r : Reply} {t serial life clock o n clock₁ o₁ n₁ : ℕ} {b : Bool} (g : Form) (ps : List Pair)
+pub known : {s : List ℕ} {t serial life clock o n clock₁ o₁ n₁ : ℕ} {b : Bool} (g : Form) (ps : List Pair)
     → Loaded (words s) clock o n → life ≡ get_or (words s) life_at 0 → Advanced (words s) life o n t clock₁ o₁ n₁ → clock ≤ t
-    → b ≡ holds_serial serial (window (words s) o₁ n₁) → b ≡ true → Refusal 8 r
-    → Did (message t serial g ps) s r s
-known {s} {r} {t} {serial} {life} {clock} {o} {n} {clock₁} {o₁} {n₁} {b} g ps loaded life-is adv h e y z =
-    refused_by (message t serial g ps) z
+    → b ≡ holds_serial serial (window (words s) o₁ n₁) → b ≡ true → Did (message t serial g ps) s (Err Serial) s
+known {s} {t} {serial} {life} {clock} {o} {n} {clock₁} {o₁} {n₁} {b} g ps loaded life-is adv h e y =
+    refused_by (message t serial g ps)
     (λ log rep v.
     let l : log.clock ≤ t = let k = rep.clock in let m = loaded.clock_is in omega arith in
     message_judged t serial life clock o n g ps (words s) loaded life-is clock₁ o₁ n₁ adv log rep l v b e ∙ ap (λ (x : Bool). cond {A = ℕ} x 8 0) y)
@@ -159,38 +154,38 @@ pub message_done : {s s' : List ℕ} {r : Reply} {t serial life clock o n clock�
     → b ≡ holds_serial serial (window (words s) o₁ n₁) → b ≡ false
     → (capacity ≤ most_messages) × (get_or (words s) capacity_at 0 ≤ most_messages → capacity ≡ get_or (words s) capacity_at 0)
     → Roomy capacity clock₁ o₁ n₁ clock₂ o' n'
-    → Joined (arrival t serial u ps) o n o' n' (words s) r (words s') → n' < most_messages → Did (message t serial g ps) s r s'
+    → Joined (arrival t serial u ps) o n o' n' (words s) r (words s') → n' < most_messages → Did (message t serial g ps) s (Ok r) s'
 message_done {s} {s'} {r} {t} {serial} {life} {clock} {o} {n} {clock₁} {o₁} {n₁} {capacity} {clock₂} {o'} {n'} {b} {u} {ps} g grade loaded life-is adv h e y
     cap roomy j room = record {
-      unchanged = λ z. absurd (z j.number);
+      unchanged = tt;
       right = λ log rep v.
           let l : log.clock ≤ t = let k = rep.clock in let m = loaded.clock_is in omega arith in
           let c : capacity ≡ log.N = let k = rep.capacity in let m = rep.capacity_most in cap.1 (omega arith) ∙ k in
           let ok : judge_frame log (message t serial g ps) ≡ 0 =
           message_judged t serial life clock o n g ps (words s) loaded life-is clock₁ o₁ n₁ adv log rep l v b e ∙ ap (λ (x : Bool). cond {A = ℕ} x 8 0) y in (
-            j.number ∙ sym ok,
-            λ z. message_accepted t serial life clock o n g ps (words s) loaded life-is clock₁ o₁ n₁ adv log rep l v capacity clock₂ o' n' c roomy r (words s')
+            sym ok,
+            message_accepted t serial life clock o n g ps (words s) loaded life-is clock₁ o₁ n₁ adv log rep l v capacity clock₂ o' n' c roomy r (words s')
                 (subst (λ (x : Urgency). Joined (arrival t serial x ps) o n o' n' (words s) r (words s')) (sym grade) j) ok room,
           );
     }
 
 -- ---- a cancellation
 
-module _ {t life clock o n clock' o' n' j : ℕ} {w : List ℕ} (s : ℕ) (loaded : Loaded w clock o n) (life-is : life ≡ get_or w life_at 0)
-    (adv : Advanced w life o n t clock' o' n') (sought : j ≡ seek w s (ring o' n')) where
+module _ {t life clock o n clock' o' n' : ℕ} {w : List ℕ} (s : ℕ) (loaded : Loaded w clock o n) (life-is : life ≡ get_or w life_at 0)
+    (adv : Advanced w life o n t clock' o' n') where
   below : o' < slots
   below = moved_below loaded.oldest_below adv.moved
 
   -- what was sought is there, or no message in the window has the serial
-  sought_none : slots ≤ j → holds_serial s (window w o' n') ≡ false
+  sought_none : seek w s (ring o' n') ≡ slots → holds_serial s (window w o' n') ≡ false
   sought_none h =
       ⊎_elim (λ p. p.1)
       (λ p. absurd (let l = (in_ring_lem o' n' (seek w s (ring o' n')) below (found_in p.0)).0 in omega arith))
       (seek_cases w s (ring o' n'))
 
-  sought_found : j < slots → Found w s (ring o' n') j × (holds_serial s (window w o' n') ≡ true)
+  sought_found : {j : ℕ} → (seek w s (ring o' n') ≡ j) × (j < slots) → Found w s (ring o' n') j × (holds_serial s (window w o' n') ≡ true)
   sought_found h =
-      ⊎_elim (λ p. absurd (omega (arith, p.0))) (λ p. (subst (Found w s (ring o' n')) (sym sought) p.0, p.1)) (seek_cases w s (ring o' n'))
+      ⊎_elim (λ p. absurd (omega (arith, p.0, h.0))) (λ p. (subst (Found w s (ring o' n')) h.0 p.0, p.1)) (seek_cases w s (ring o' n'))
 
   cancel_judged : (log : Log) → Represents log w → log.clock ≤ t → Valid (cancel t s) → (b : Bool) → holds_serial s (window w o' n') ≡ b
       → judge_frame log (cancel t s) ≡ cond b 0 13
@@ -198,10 +193,10 @@ module _ {t life clock o n clock' o' n' j : ℕ} {w : List ℕ} (s : ℕ) (loade
       judged_kind log (cancel t s) late
       ∙ ap (λ (c : Bool). cond {A = ℕ} c 0 13) (sym (serial_in_force log t s r.sound v.1 (places_loaded loaded life-is adv log r late)) ∙ e)
 
-  cancel_accepted : (log : Log) (r : Represents log w) (late : log.clock ≤ t) (v : Valid (cancel t s)) (ok : judge_frame log (cancel t s) ≡ 0) → j < slots
-      → {went reply : Reply} {w₃ : List ℕ} → Departed clock' j s o n o' n' w went w₃ → reply.marks ≡ went.marks → reply.departures ≡ went.departures + 1
+  cancel_accepted : (log : Log) (r : Represents log w) (late : log.clock ≤ t) (v : Valid (cancel t s)) (ok : judge_frame log (cancel t s) ≡ 0)
+      → {j : ℕ} → (seek w s (ring o' n') ≡ j) × (j < slots) → {went reply : Reply} {w₃ : List ℕ} → Departed clock' j s o n o' n' w went w₃ → reply.marks ≡ went.marks → reply.departures ≡ went.departures + 1
       → Accepted log (cancel t s) w reply w₃
-  cancel_accepted log r late v ok h {went} {reply} {w₃} d em ed =
+  cancel_accepted log r late v ok {j} h {went} {reply} {w₃} d em ed =
       let moved = moved_loaded loaded life-is adv log r in
       let e = departed_loaded loaded life-is adv log r d in
       let left = places_loaded loaded life-is adv log r late in
@@ -215,24 +210,24 @@ module _ {t life clock o n clock' o' n' j : ℕ} {w : List ℕ} (s : ℕ) (loade
       (ed ∙ ap (λ (c : ℕ). c + 1) e.departures ∙ cancel_count log w r t s v late ok moved left found p g.silenced)
 
 -- 13: "serial not in force at the frame's time"
-pub unknown : {state : List ℕ} {r : Reply} {t s life clock o n clock' o' n' j : ℕ} → Loaded (words state) clock o n → life ≡ get_or (words state) life_at 0
-    → Advanced (words state) life o n t clock' o' n' → clock ≤ t → j ≡ seek (words state) s (ring o' n') → slots ≤ j → Refusal 13 r
-    → Did (cancel t s) state r state
-unknown {t = t} {s} loaded life-is adv h sought none z =
-    refused_by (cancel t s) z
+pub unknown : {state : List ℕ} {t s life clock o n clock' o' n' : ℕ} → Loaded (words state) clock o n → life ≡ get_or (words state) life_at 0
+    → Advanced (words state) life o n t clock' o' n' → clock ≤ t → seek (words state) s (ring o' n') ≡ slots
+    → Did (cancel t s) state (Err NotInForce) state
+unknown {t = t} {s} loaded life-is adv h none =
+    refused_by (cancel t s)
     (λ log r v.
     let l : log.clock ≤ t = let k = r.clock in let m = loaded.clock_is in omega arith in
-    cancel_judged s loaded life-is adv sought log r l v false (sought_none s loaded life-is adv sought none))
+    cancel_judged s loaded life-is adv log r l v false (sought_none s loaded life-is adv none))
 
 -- a message cancelled
 pub cancel_done : {state state' : List ℕ} {went reply : Reply} {t s life clock o n clock' o' n' j : ℕ} → Loaded (words state) clock o n
-    → life ≡ get_or (words state) life_at 0 → Advanced (words state) life o n t clock' o' n' → clock ≤ t → j ≡ seek (words state) s (ring o' n') → j < slots
-    → Departed clock' j s o n o' n' (words state) went (words state') → reply.number ≡ 0 → reply.marks ≡ went.marks → reply.departures ≡ went.departures + 1
-    → Did (cancel t s) state reply state'
-cancel_done {t = t} {s} loaded life-is adv h sought there d en em ed = record {
-  unchanged = λ z. absurd (z en);
+    → life ≡ get_or (words state) life_at 0 → Advanced (words state) life o n t clock' o' n' → clock ≤ t
+    → (seek (words state) s (ring o' n') ≡ j) × (j < slots) → Departed clock' j s o n o' n' (words state) went (words state') → reply.marks ≡ went.marks → reply.departures ≡ went.departures + 1
+    → Did (cancel t s) state (Ok reply) state'
+cancel_done {t = t} {s} loaded life-is adv h there d em ed = record {
+  unchanged = tt;
   right = λ log r v.
       let l : log.clock ≤ t = let k = r.clock in let m = loaded.clock_is in omega arith in
-      let ok : judge_frame log (cancel t s) ≡ 0 = cancel_judged s loaded life-is adv sought log r l v true (sought_found s loaded life-is adv sought there).1 in
-      (en ∙ sym ok, λ z. cancel_accepted s loaded life-is adv sought log r l v ok there d em ed);
+      let ok : judge_frame log (cancel t s) ≡ 0 = cancel_judged s loaded life-is adv log r l v true (sought_found s loaded life-is adv there).1 in
+      (sym ok, cancel_accepted s loaded life-is adv log r l v ok there d em ed);
 }

@@ -1,3 +1,4 @@
+pub mod ToldLaws
 pub mod ArrivingLaws
 pub mod MarkLaws
 pub mod RepresentsLaws

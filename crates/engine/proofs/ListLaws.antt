@@ -7,6 +7,8 @@ use mathlib.Core.List.{List, [], map}
 use mathlib.Core.Option.{Option, none, some}
 use lib.ListN.{length}
 use borrow.Author.Tests.{eq-eqb}
+use Rattle.std.specs.Prelude.{Ok, Err}
+use Rattle.paper.specs.declared.refusal.Refusal.TheVariants.{NotInUse, Memory}
 use Rattle.paper.specs.Frame.{numbers}
 use Rattle.paper.specs.Rank.{Query, ranking, lines}
 use Rattle.paper.specs.Layout.{state_length}
@@ -16,12 +18,14 @@ use Rattle.paper.specs.Log as Log
 use Rattle.memory.specs.Words.{words}
 use Rattle.rank.specs.declared.Ranked.{Ranked}
 use Rattle.rank.specs.declared.Lines.{Lines}
-use Rattle.rank.specs.Listing.{keyed_of, shown, lines_of, Tidy, TidyLines, NoLine, Shows}
+use Rattle.rank.specs.Listing.{keyed_of, shown, lines_of, Tidy, TidyLines, Shows}
 use Rattle.query.specs.Record.{keys, HoldsAt, Holds}
 use Rattle.query.specs.Post.{LoadedList}
+use Rattle.engine.specs.Told.{told_list}
 use Rattle.engine.specs.Represents.{Represents, oldest_of, count_of}
 use Rattle.engine.specs.Inner.{registered_in}
 use Rattle.engine.specs.Post.{ListPost}
+use Rattle.engine.proofs.ToldLaws.{no_entry_listed, no_entry_tidy}
 use Rattle.engine.proofs.RepresentsLaws.{registered_below, in_use}
 
 -- a number that isn't in use has no list
@@ -30,6 +34,15 @@ unlisted ms none e = refl
 unlisted ms (some q) e = absurd (true≢false e)
 
 module _ (s : List ℕ) (n : ℕ) where
+  pub list_not_lent : (length s ≡ state_length → ⊥) → ListPost s n (told_list (Err Memory))
+  list_not_lent h = record {
+    not_lent = λ _. refl;
+    no_number = λ l _. absurd (h l);
+    most = omega arith;
+    refused = λ _. (no_entry_listed, no_entry_tidy);
+    right = λ log r l. absurd (h l);
+  }
+
   module _ (long : length s ≡ state_length) where
     judged : (log : Log) {b : Bool} → is_in_use (query_at log n) ≡ b → judge_list 0 log (length s) 0 n ≡ cond b 0 10
     unfolding judge_list
@@ -45,20 +58,20 @@ module _ (s : List ℕ) (n : ℕ) where
         go (some q) e = rw (judged log (ap is_in_use e), e) refl
 
     -- the record says which are in use
-    module _ {b : Bool} (test : b ≡ registered_in (words s) n) where
-      used_by : {d : Bool} → b ≡ d → (log : Log) → Represents log (words s) → is_in_use (query_at log n) ≡ d
-      used_by e log r = in_use log (words s) n r ∙ sym test ∙ e
+    module _ {b : Bool} (test : registered_in (words s) n ≡ b) where
+      used_by : (log : Log) → Represents log (words s) → is_in_use (query_at log n) ≡ b
+      used_by log r = in_use log (words s) n r ∙ test
 
       -- the log has no such query
-      pub list_unused : {l : Lines} → b ≡ false → NoLine l → ListPost s n (record { number = 10; list = l })
-      list_unused f e = record {
+      pub list_unused : b ≡ false → ListPost s n (told_list (Err NotInUse))
+      list_unused f = record {
         not_lent = λ h. absurd (h long);
         no_number = λ _ _. refl;
-        most = let z = e.count in omega arith;
-        refused = λ _. (e.list, e.tidy);
+        most = omega arith;
+        refused = λ _. (no_entry_listed, no_entry_tidy);
         right = λ log r _.
-            let absent = used_by f log r in
-            (sym (judged log absent), e.list ∙ sym (listed_is log ∙ unlisted (seen log) (query_at log n) absent), e.tidy);
+            let absent = used_by log r ∙ f in
+            (sym (judged log absent), no_entry_listed ∙ sym (listed_is log ∙ unlisted (seen log) (query_at log n) absent), no_entry_tidy);
       }
 
       -- the list of the record is that of the log
@@ -71,17 +84,17 @@ module _ (s : List ℕ) (n : ℕ) where
             record { serials = rw (c, p.serials) k.no_serial; values = rw (c, p.keys) k.no_key },
           )
 
-      pub list_right : {l : Ranked} {x : Lines} → b ≡ true → LoadedList (words s) n l → Shows l x → ListPost s n (record { number = 0; list = x })
+      pub list_right : {l : Ranked} {x : Lines} → b ≡ true → LoadedList (words s) n l → Shows l x → ListPost s n (told_list (Ok x))
       list_right {l} {x} e p shows = record {
         not_lent = λ h. absurd (h long);
         no_number = λ _ k. absurd (omega (arith, below));
         most = let c = p.count_most in omega (arith, shows.count);
         refused = λ k. absurd (k refl);
-        right = λ log r _. go log (query_at log n) refl (used_by e log r) (r.records n below);
+        right = λ log r _. go log (query_at log n) refl (used_by log r ∙ e) (r.records n below);
       }
         where
           below : n < numbers
-          below = registered_below (words s) n (sym test ∙ e)
+          below = registered_below (words s) n (test ∙ e)
 
           go : (log : Log) (y : Option Query) → query_at log n ≡ y → is_in_use (query_at log n) ≡ true
               → HoldsAt (words s) n (oldest_of (words s)) (count_of (words s)) (seen log) y

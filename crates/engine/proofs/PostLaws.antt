@@ -8,6 +8,9 @@ use mathlib.Core.List.{List}
 use lib.ListN.{length, get_or, take, drop}
 use lib.Dec.{eqb}
 use borrow.Author.Tests.{eq-eqb, ne_eqb, eqb-true, eqb-false}
+use Rattle.std.specs.Prelude.{Result, Ok, Err}
+use Rattle.paper.specs.declared.refusal.Refusal.{Refusal}
+use Rattle.paper.specs.Refusal.{number_of}
 use Rattle.paper.specs.Frame.{Frame, Shape, Valid, shape, numbers}
 use Rattle.paper.specs.Frame.Shape.{refused, accepted}
 use Rattle.paper.specs.Layout.{state_length, record_at, record_words}
@@ -18,10 +21,11 @@ use Rattle.memory.specs.Words.{words}
 use Rattle.memory.proofs.WordLaws.{same_bytes}
 use Rattle.query.specs.Record.{SameRecord}
 use Rattle.engine.specs.declared.Reply.{Reply}
+use Rattle.engine.specs.Told.{ToldReply, told_reply}
 use Rattle.engine.specs.Represents.{Represents, keeping}
 use Rattle.engine.specs.Post.{call_of, reply_of, record_bytes, FrameRight, FramePost}
-use Rattle.engine.specs.Inner.{Did}
-use Rattle.engine.proofs.KindLaws.{Refusal}
+use Rattle.engine.specs.Inner.{Did, Accepted}
+use Rattle.engine.proofs.ToldLaws.{not_0}
 use Rattle.engine.proofs.UnmarkedLaws.{unmarked_kept}
 
 -- memory of the right length is judged by the frame's shape
@@ -31,7 +35,7 @@ judged s bytes log l = ap (λ (b : Bool). cond (b && true) (judge_shape log (sha
 
 -- what the paper makes of a call with number n
 module _ (s bytes : List ℕ) (log : Log) (n : ℕ) (e : judge 0 log (call_of s bytes) ≡ n) where
-  replied : (r : Reply) → r.number ≡ n
+  replied : (r : ToldReply) → r.number ≡ n
       → r.marks ≡ cond (eqb n 0) (marks_shape log (keeping (words s)) (shape bytes)) 0
       → r.departures ≡ cond (eqb n 0) (departures_shape log (shape bytes)) 0
       → reply_of r ≡ reply_to 0 log (keeping (words s)) (call_of s bytes)
@@ -49,51 +53,36 @@ module _ (s bytes : List ℕ) (log : Log) (n : ℕ) (e : judge 0 log (call_of s 
 
 -- ---- a refusal leaves everything as it was
 
-refused_right : (s bytes : List ℕ) (r : Reply) (n : ℕ) (log : Log) → Represents log (words s) → judge 0 log (call_of s bytes) ≡ suc n → Refusal (suc n) r
-    → FrameRight log s bytes r s
-refused_right s bytes r n log rep e z =
-    let no : eqb (suc n) 0 ≡ false = ne_eqb (suc n) 0 (λ h. omega arith) in
+refused_right : (s bytes : List ℕ) (x : Refusal) (log : Log) → Represents log (words s) → judge 0 log (call_of s bytes) ≡ number_of x
+    → FrameRight log s bytes (told_reply (Err x)) s
+refused_right s bytes x log rep e =
+    let no : eqb (number_of x) 0 ≡ false = not_0 x in
     record {
       reply =
-          replied s bytes log (suc n) e r z.0
-          (z.1 ∙ ap (λ (b : Bool). cond b (marks_shape log (keeping (words s)) (shape bytes)) 0) (sym no))
-          (z.2 ∙ ap (λ (b : Bool). cond b (departures_shape log (shape bytes)) 0) (sym no));
+          replied s bytes log (number_of x) e (told_reply (Err x)) refl
+          (ap (λ (b : Bool). cond b (marks_shape log (keeping (words s)) (shape bytes)) 0) (sym no))
+          (ap (λ (b : Bool). cond b (departures_shape log (shape bytes)) 0) (sym no));
       holds =
           subst (λ (l : Log). Represents l (words s))
-          (sym (log_after s bytes log (suc n) e ∙ ap (λ (b : Bool). cond b (accept_shape log (shape bytes)) log) no)) rep;
+          (sym (log_after s bytes log (number_of x) e ∙ ap (λ (b : Bool). cond b (accept_shape log (shape bytes)) log) no)) rep;
       untouched = λ q h m. (refl, refl);
     }
 
-positive : (n : ℕ) → 1 ≤ n → (m : ℕ) × (n ≡ suc m)
-positive zero h = absurd (omega arith)
-positive (suc m) h = (m, refl)
-
--- 12
-pub not_lent : (s bytes : List ℕ) (r : Reply) → (length s ≡ state_length → ⊥) → Refusal 12 r → FramePost s bytes r s
-not_lent s bytes r ne z = record {
-  long = refl;
-  not_lent = λ h. z.0;
-  shaped = λ l n e. absurd (ne l);
-  unchanged = λ h. (refl, z.1, z.2);
-  right = λ log rep l. absurd (ne l);
-}
-
 -- 1 to 6 and 14
-pub misshapen : (s bytes : List ℕ) (r : Reply) (n : ℕ) → length s ≡ state_length → shape bytes ≡ refused n → Refusal n r → FramePost s bytes r s
-misshapen s bytes r n l e z = record {
+pub misshapen : (s bytes : List ℕ) (x : Refusal) → length s ≡ state_length → shape bytes ≡ refused (number_of x)
+    → FramePost s bytes (told_reply (Err x)) s
+misshapen s bytes x l e = record {
   long = refl;
   not_lent = λ ne. absurd (ne l);
-  shaped = λ k m f. z.0 ∙ (cc);
-  unchanged = λ h. (refl, z.1, z.2);
-  right = λ log rep k.
-      let p = positive n (⊎_elim (λ h. h.0) (λ h. omega arith) (shape_number bytes n e)) in
-      refused_right s bytes r p.0 log rep (judged s bytes log l ∙ ap (judge_shape log) e ∙ p.1) (subst (λ (x : ℕ). Refusal x r) p.1 z);
+  shaped = λ k m f. cc;
+  unchanged = λ h. (refl, refl, refl);
+  right = λ log rep k. refused_right s bytes x log rep (judged s bytes log l ∙ ap (judge_shape log) e);
 }
 
 -- ---- a frame of one kind, judged by the history and taken in
 
-module _ (s s' bytes : List ℕ) (r : Reply) (f : Frame) (l : length s ≡ state_length) (long : length s' ≡ length s) (e : shape bytes ≡ accepted f)
-    (bs : (i : ℕ) → get_or s i 0 < 256) (bs' : (i : ℕ) → get_or s' i 0 < 256) (did : Did f s r s') where
+module _ (s s' bytes : List ℕ) (f : Frame) (l : length s ≡ state_length) (long : length s' ≡ length s) (e : shape bytes ≡ accepted f)
+    (bs : (i : ℕ) → get_or s i 0 < 256) (bs' : (i : ℕ) → get_or s' i 0 < 256) where
   -- equal words are equal bytes
   same_record : (q : ℕ) → q < numbers → SameRecord (words s) (words s') q → record_bytes s' q ≡ record_bytes s q
   same_record q h same =
@@ -105,47 +94,42 @@ module _ (s s' bytes : List ℕ) (r : Reply) (f : Frame) (l : length s ≡ state
       let x : record_at q + (i - record_at q) ≡ i = omega arith in
       subst (λ (j : ℕ). get_or (words s') j 0 ≡ get_or (words s) j 0) x (same (i - record_at q) (omega arith))))
 
-  module _ (log : Log) (rep : Represents log (words s)) where
-    v : Valid f
-    v = shape_valid bytes f e
+  valid : Valid f
+  valid = shape_valid bytes f e
 
-    number : judge 0 log (call_of s bytes) ≡ r.number
-    number = judged s bytes log l ∙ ap (judge_shape log) e ∙ sym (did.right log rep v).0
+  number : (log : Log) (n : ℕ) → n ≡ judge_frame log f → judge 0 log (call_of s bytes) ≡ n
+  number log n ok = judged s bytes log l ∙ ap (judge_shape log) e ∙ sym ok
 
-    taken : r.number ≡ 0 → FrameRight log s bytes r s'
-    taken z =
-        let a = (did.right log rep v).1 z in
-        let ok : judge_frame log f ≡ 0 = sym (did.right log rep v).0 ∙ z in
-        let none : judge 0 log (call_of s bytes) ≡ 0 = number ∙ z in
-        let holds : Represents (accept log f) (words s') = a.holds in
-        record {
-          reply =
-              replied s bytes log 0 none r z (a.marks ∙ ap (marks_shape log (keeping (words s))) (sym e))
-              (a.departures ∙ ap (departures_shape log) (sym e));
-          holds = subst (λ (x : Log). Represents x (words s')) (ap (accept_shape log) (sym e) ∙ sym (log_after s bytes log 0 none)) holds;
-          untouched = λ q h m.
-              let free : marked log (keeping (words s)) f q ≡ false =
-              ap (λ (x : Shape). marked_shape log (keeping (words s)) x q) (sym e) ∙ sym (marked_by_lem s bytes log 0 none q) ∙ m in
-              let same = a.untouched q h free in
-              (same_record q h same, unmarked_kept log f (words s) (words s') q rep holds ok h free same);
-        }
+  taken : (r : Reply) (log : Log) → Represents log (words s) → 0 ≡ judge_frame log f → Accepted log f (words s) r (words s')
+      → FrameRight log s bytes (told_reply (Ok r)) s'
+  taken r log rep ok a =
+      let none : judge 0 log (call_of s bytes) ≡ 0 = number log 0 ok in
+      record {
+        reply =
+            replied s bytes log 0 none (told_reply (Ok r)) refl (a.marks ∙ ap (marks_shape log (keeping (words s))) (sym e))
+            (a.departures ∙ ap (departures_shape log) (sym e));
+        holds = subst (λ (x : Log). Represents x (words s')) (ap (accept_shape log) (sym e) ∙ sym (log_after s bytes log 0 none)) a.holds;
+        untouched = λ q h m.
+            let free : marked log (keeping (words s)) f q ≡ false =
+            ap (λ (x : Shape). marked_shape log (keeping (words s)) x q) (sym e) ∙ sym (marked_by_lem s bytes log 0 none q) ∙ m in
+            let same = a.untouched q h free in
+            (same_record q h same, unmarked_kept log f (words s) (words s') q rep a.holds (sym ok) h free same);
+      }
 
-    decided : FrameRight log s bytes r s'
-    decided = go (eqb r.number 0) refl
-      where
-        go : (b : Bool) → eqb r.number 0 ≡ b → FrameRight log s bytes r s'
-        go true h = taken (eqb-true r.number 0 h)
-        go false h =
-            let ne = eqb-false r.number 0 h in
-            let p = positive r.number (omega (arith, ne)) in
-            let u = did.unchanged ne in
-            subst (FrameRight log s bytes r) (sym u.0) (refused_right s bytes r p.0 log rep (number ∙ p.1) (p.1, u.1, u.2))
-
-  pub done : FramePost s bytes r s'
-  done = record {
+  pub done : (r : Result Reply Refusal) → Did f s r s' → FramePost s bytes (told_reply r) s'
+  done (Ok x) did = record {
     long = long;
     not_lent = λ ne. absurd (ne l);
     shaped = λ k n h. let z : ◌≡◌ {A = ℕ} 0 1 = cc in absurd (omega arith);
-    unchanged = did.unchanged;
-    right = λ log rep k. decided log rep;
+    unchanged = λ h. absurd (h refl);
+    right = λ log rep k. let d = did.right log rep valid in taken x log rep d.0 d.1;
+  }
+  done (Err x) did = record {
+    long = long;
+    not_lent = λ ne. absurd (ne l);
+    shaped = λ k n h. let z : ◌≡◌ {A = ℕ} 0 1 = cc in absurd (omega arith);
+    unchanged = λ h. (did.unchanged, refl, refl);
+    right = λ log rep k.
+        subst (FrameRight log s bytes (told_reply (Err x))) (sym did.unchanged)
+        (refused_right s bytes x log rep (number log (number_of x) (did.right log rep valid).0));
   }

@@ -7,6 +7,8 @@ use mathlib.Core.List.{List, map}
 use lib.ListN.{length}
 use lib.Dec.{ltb, leb}
 use borrow.Author.Tests.{eq-eqb, lt-ltb, le-ltb, le-leb, lt-leb}
+use Rattle.std.specs.Prelude.{Ok, Err}
+use Rattle.paper.specs.declared.refusal.Refusal.TheVariants.{Value, Memory}
 use Rattle.paper.specs.Frame.{term_width}
 use Rattle.paper.specs.Layout.{state_length}
 use Rattle.paper.specs.Log.{Log, in_force_now, filled_now, posted, judge_postings, posting_length}
@@ -19,6 +21,7 @@ use Rattle.window.specs.Slot.{held, window}
 use Rattle.window.specs.Cursor.{Loaded}
 use Rattle.posting.specs.Posting.{Counted, Filled}
 use Rattle.posting.proofs.PaperLaws.{counted_postings, filled_postings}
+use Rattle.engine.specs.Told.{told_count}
 use Rattle.engine.specs.Represents.{Represents}
 use Rattle.engine.specs.Post.{posted_into, PostingsPost}
 
@@ -29,7 +32,7 @@ module _ (s : List ℕ) (t : ℕ) (out : List ℕ) where
     unfolding judge_postings
     judged log e f = rw (eq-eqb (length s) state_length long, e, f) refl
 
-    pub postings_no_term : 2 ^ term_width ≤ t → PostingsPost s t out (record { number = 5; count = 0 }) out
+    pub postings_no_term : 2 ^ term_width ≤ t → PostingsPost s t out (told_count (Err Value)) out
     postings_no_term h = record {
       long = refl;
       not_lent = λ k. absurd (k long);
@@ -53,7 +56,7 @@ module _ (s : List ℕ) (t : ℕ) (out : List ℕ) where
       counted : (log : Log) → Represents log (words s) → found ≡ length (posted log t)
       counted log r = rw (active_ones log) (counted_postings t (filled_now log) (active_valid log r) (shown log r) c)
 
-      pub postings_no_room : length out / 8 < found → PostingsPost s t out (record { number = 12; count = 0 }) out
+      pub postings_no_room : length out / 8 < found → PostingsPost s t out (told_count (Err Memory)) out
       postings_no_room less = record {
         long = refl;
         not_lent = λ _. refl;
@@ -71,7 +74,7 @@ module _ (s : List ℕ) (t : ℕ) (out : List ℕ) where
       written log r f = rw (active_ones log) (filled_postings t (filled_now log) (active_valid log r) (shown log r) f)
 
       pub postings_right : {out' : List ℕ} → found ≤ length out / 8 → Filled t n (window (words s) o n) out out'
-          → PostingsPost s t out (record { number = 0; count = found }) out'
+          → PostingsPost s t out (told_count (Ok found)) out'
       postings_right {out'} fits f = record {
         long = f.keeps.long;
         not_lent = λ k. absurd (k long);

@@ -12,13 +12,13 @@ use lib.Seq.{get_or-take}
 use Rattle.paper.specs.Frame.Urgency.{vital}
 use Rattle.paper.specs.Frame.Form.{ungraded, graded, long}
 use Rattle.paper.specs.Frame.Frame.{message, tick, register, unregister, cancel}
-use Rattle.paper.specs.Frame.Shape.{refused, accepted}
-use Rattle.paper.specs.Write.{side_by_side}
+use Rattle.paper.specs.Frame.Shape.{accepted}
+use Rattle.paper.specs.Write.{side_by_side, pairs_in}
 use Rattle.paper.proofs.FrameLaws.{level_most, form_most, shape_valid}
 use Rattle.frame.specs.declared.Kind.{Kind}
-use Rattle.frame.specs.declared.Kind.TheVariants.{Message, Tick, Register, Unregister, Cancel, Refused}
+use Rattle.frame.specs.declared.Kind.TheVariants.{Message, Tick, Register, Unregister, Cancel}
 use Rattle.frame.specs.declared.Parsed.{Parsed}
-use Rattle.frame.specs.Read.{answer_of, pairs_read, ReadPost}
+use Rattle.frame.specs.Read.{answer_of, ReadFrame}
 use Rattle.frame.proofs.RoundTrip.{form_of, told, read_told, count_in, count_answer}
 
 -- two lists with as many pairs as is said: each is within its field
@@ -30,6 +30,9 @@ within w (suc m) [] us a e i l = absurd (not-suc-le-zero (le_of_eq e))
 within w (suc m) (t ∷ ts) [] a e i l = absurd (not-suc-le-zero (le_of_eq e))
 within w (suc m) (t ∷ ts) (u ∷ us) a e zero l = (a.0, a.1)
 within w (suc m) (t ∷ ts) (u ∷ us) a e (suc i) l = within w m ts us a.2 (suc_inj e) i (le_of_suc-le-suc l)
+
+accepted_same : {f g : Frame} → accepted f ≡ accepted g → f ≡ g
+accepted_same e = cc
 
 -- What a caller of a function for one kind needs: the frame is this one, and its arrays are within their fields.
 pub record Read (bytes terms amounts : List ℕ) (m w : ℕ) (make : List Pair → Frame) : Type 0 where
@@ -63,27 +66,26 @@ Urged (Tick t) = Unit {0}
 Urged (Register t n k m) = Unit {0}
 Urged (Unregister t n) = Unit {0}
 Urged (Cancel t s) = Unit {0}
-Urged (Refused r) = Unit {0}
 
-urged : (x : Shape) → Urged (answer_of x)
-urged (accepted (message t s ungraded ps)) = (lit≤ tt, refl)
-urged (accepted (message t s (graded u) ps)) = (level_most u, refl)
-urged (accepted (message t s (long u) ps)) = (level_most u, refl)
-urged (accepted (tick t)) = tt
-urged (accepted (register t n k ps)) = tt
-urged (accepted (unregister t n)) = tt
-urged (accepted (cancel t s)) = tt
-urged (refused r) = tt
+urged : (f : Frame) → Urged (answer_of f)
+urged (message t s ungraded ps) = (lit≤ tt, refl)
+urged (message t s (graded u) ps) = (level_most u, refl)
+urged (message t s (long u) ps) = (level_most u, refl)
+urged (tick t) = tt
+urged (register t n k ps) = tt
+urged (unregister t n) = tt
+urged (cancel t s) = tt
 
-module _ (bytes : List ℕ) (r : Parsed) (post : ReadPost (shape bytes) r) where
-  -- bytes that are answered with k are the frame, or the refusal, that k tells
-  pub read_as : (k : Kind) → r.what ≡ k → shape bytes ≡ told k r.terms r.amounts
-  read_as k e = sym (read_told bytes r post) ∙ ap (λ (x : Kind). told x r.terms r.amounts) e
+module _ (bytes : List ℕ) (r : Parsed) (post : ReadFrame (shape bytes) r) where
+  -- bytes that are answered with k are the frame that k tells
+  pub read_as : (k : Kind) → r.what ≡ k → shape bytes ≡ accepted (told k r.terms r.amounts)
+  read_as k e = sym (read_told bytes r post) ∙ ap (λ (x : Kind). accepted (told x r.terms r.amounts)) e
 
   -- and have as many pairs as k says
-  read_count : (k : Kind) → r.what ≡ k → count_in k ≡ length (pairs_read (told k r.terms r.amounts))
+  read_count : (k : Kind) → r.what ≡ k → count_in k ≡ length (pairs_in (told k r.terms r.amounts))
   read_count k e =
-      ap count_in (sym e ∙ post.what) ∙ count_answer (shape bytes) ∙ ap (λ (x : Shape). length (pairs_read x)) (read_as k e)
+      let same : post.frame ≡ told k r.terms r.amounts = accepted_same (sym post.is ∙ read_as k e) in
+      ap count_in (sym e ∙ post.what) ∙ count_answer post.frame ∙ ap (λ (f : Frame). length (pairs_in f)) same
 
   read_pairs : (m w most : ℕ) (make : List Pair → Frame) → shape bytes ≡ accepted (make (side_by_side m r.terms r.amounts))
       → m ≡ length (side_by_side m r.terms r.amounts) → Pairs w most (side_by_side m r.terms r.amounts) → most ≤ most_pairs
@@ -99,7 +101,7 @@ module _ (bytes : List ℕ) (r : Parsed) (post : ReadPost (shape bytes) r) where
       let g = form_of f (urgency_of u) in
       let is = read_as (Message f t s u m) e in (
         read_pairs m count_width (most_in g) (message t s g) is (read_count (Message f t s u m) e) (shape_valid bytes _ is).pairs (form_most g),
-        subst Urged (sym post.what ∙ e) (urged (shape bytes)),
+        subst Urged (sym post.what ∙ e) (urged post.frame),
       )
 
   pub read_register : (t n k m : ℕ) → r.what ≡ Register t n k m

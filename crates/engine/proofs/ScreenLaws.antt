@@ -9,6 +9,10 @@ use lib.ListN.{length, get_or, drop}
 use lib.Seq.{drop_at}
 use lib.Dec.{leb}
 use borrow.Author.Tests.{eq-eqb, ne_eqb, le-leb, lt-leb}
+use Rattle.std.specs.Prelude.{Ok, Err}
+use Rattle.paper.specs.declared.refusal.Refusal.{Refusal}
+use Rattle.paper.specs.declared.refusal.Refusal.TheVariants.{Value, Memory}
+use Rattle.paper.specs.Refusal.{number_of}
 use Rattle.paper.specs.Frame.{numbers}
 use Rattle.paper.specs.Rank.{Query}
 use Rattle.paper.specs.Order.{In}
@@ -23,8 +27,10 @@ use Rattle.query.proofs.RecordLaws.{map_agree}
 use Rattle.screen.specs.Lines.{screen_bytes, lines_into}
 use Rattle.screen.specs.Post.{queue_after, all_queues, Shared}
 use Rattle.screen.proofs.LineLaws.{bytes_length, lines_length}
+use Rattle.engine.specs.Told.{told_count}
 use Rattle.engine.specs.Represents.{Represents, oldest_of, count_of}
 use Rattle.engine.specs.Post.{ScreenPost}
+use Rattle.engine.proofs.ToldLaws.{not_0}
 use Rattle.engine.proofs.ListLaws.{unlisted, listed_is}
 
 -- ---- what the memory shows
@@ -57,20 +63,20 @@ share_most {w} {B} h = omega (arith, h.count, screen_most B (all_queues w))
 -- ---- refused
 
 module _ (s : List ℕ) (B : ℕ) (out : List ℕ) where
-  refused : {k : ℕ} → (k ≡ 0 → ⊥) → judge_screen B (length s) (length out) ≡ k → ScreenPost s B out (record { number = k; count = 0 }) out
+  refused : (x : Refusal) → judge_screen B (length s) (length out) ≡ number_of x → ScreenPost s B out (told_count (Err x)) out
   unfolding screen_in screen_bytes
-  refused {k} nz j = record {
+  refused x j = record {
     number = sym j;
     most = omega arith;
     long = refl;
     past = refl;
     refused = λ _. (refl, refl);
-    right = λ log r. rw (j, ne_eqb k 0 nz) (refl, refl);
+    right = λ log r. rw (j, not_0 x) (refl, refl);
   }
 
-  pub screen_not_lent : (length s ≡ state_length → ⊥) → ScreenPost s B out (record { number = 12; count = 0 }) out
+  pub screen_not_lent : (length s ≡ state_length → ⊥) → ScreenPost s B out (told_count (Err Memory)) out
   unfolding judge_screen
-  screen_not_lent h = refused (λ e. omega arith) (rw (ne_eqb (length s) state_length h))
+  screen_not_lent h = refused Memory (rw (ne_eqb (length s) state_length h))
 
   module _ (long : length s ≡ state_length) where
     judged : {b d : Bool} → leb B most_screen_lines ≡ b → leb (screen_line_length * B) (length out) ≡ d
@@ -78,17 +84,17 @@ module _ (s : List ℕ) (B : ℕ) (out : List ℕ) where
     unfolding judge_screen
     judged e f = rw (eq-eqb (length s) state_length long, e, f) refl
 
-    pub screen_too_many : most_screen_lines < B → ScreenPost s B out (record { number = 5; count = 0 }) out
-    screen_too_many h = refused (λ e. omega arith) (judged (lt-leb B most_screen_lines h) refl)
+    pub screen_too_many : most_screen_lines < B → ScreenPost s B out (told_count (Err Value)) out
+    screen_too_many h = refused Value (judged (lt-leb B most_screen_lines h) refl)
 
     module _ (few : B ≤ most_screen_lines) where
-      pub screen_no_room : length out < screen_line_length * B → ScreenPost s B out (record { number = 12; count = 0 }) out
-      screen_no_room h = refused (λ e. omega arith) (judged (le-leb B most_screen_lines few) (lt-leb (screen_line_length * B) (length out) h))
+      pub screen_no_room : length out < screen_line_length * B → ScreenPost s B out (told_count (Err Memory)) out
+      screen_no_room h = refused Memory (judged (le-leb B most_screen_lines few) (lt-leb (screen_line_length * B) (length out) h))
 
       -- ---- accepted
 
       pub screen_right : {n : ℕ} {out' : List ℕ} → screen_line_length * B ≤ length out → Shared (words s) B out n out'
-          → ScreenPost s B out (record { number = 0; count = n }) out'
+          → ScreenPost s B out (told_count (Ok n)) out'
       unfolding screen_in
       screen_right {n} {out'} room h =
           let ok = judged (le-leb B most_screen_lines few) (le-leb (screen_line_length * B) (length out) room) in

@@ -6,6 +6,11 @@ use mathlib.Core.List.{List, map}
 use lib.ListN.{length, take}
 use lib.Seq.{length-take-le}
 use borrow.Author.Tests.{eq-eqb, ne_eqb}
+use Rattle.std.specs.Prelude.{Ok, Err}
+use Rattle.paper.specs.declared.refusal.Refusal.{Refusal}
+use Rattle.paper.specs.declared.refusal.Refusal.TheVariants.{Memory}
+use Rattle.paper.specs.Refusal.{number_of}
+use Rattle.paper.specs.Frame.Shape.{refused}
 use Rattle.paper.specs.Layout.{state_length}
 use Rattle.paper.specs.Log.{Log, in_force_now, seen}
 use Rattle.paper.specs.Search.{asked, refusal_of, judge_search, found}
@@ -13,21 +18,21 @@ use Rattle.paper.specs.Search as Search
 use Rattle.paper.proofs.LogLaws.{in_force_valid}
 use Rattle.memory.specs.Words.{words}
 use Rattle.rank.specs.declared.Lines.{Lines}
-use Rattle.rank.specs.Listing.{shown, NoLine, Shows}
+use Rattle.rank.specs.Listing.{shown, Shows}
 use Rattle.rank.proofs.PaperLaws.{shown_keyed}
 use Rattle.window.specs.Cursor.{Loaded}
 use Rattle.candidates.specs.declared.Query.{Query}
 use Rattle.query.specs.Post.{Is, Over}
 use Rattle.query.proofs.QueryLaws.{is_by}
 use Rattle.frame.specs.declared.Asked.{Asked}
-use Rattle.frame.specs.Ask.{AskedPost}
 use Rattle.frame.proofs.AskLaws.{Question}
 use Rattle.search.specs.declared.Outcome.{Outcome}
 use Rattle.search.specs.Post.{Fit, WindowSearch}
 use Rattle.search.proofs.FoundLaws.{fit_by}
-use Rattle.engine.specs.declared.Searched.{Searched}
+use Rattle.engine.specs.Told.{told_search}
 use Rattle.engine.specs.Represents.{Represents}
 use Rattle.engine.specs.Post.{SearchPost}
+use Rattle.engine.proofs.ToldLaws.{not_0, no_entry_listed, no_entry_tidy}
 use Rattle.engine.proofs.ReadLaws.{side_take}
 use Rattle.engine.proofs.RepresentsLaws.{in_force_shows}
 
@@ -42,27 +47,21 @@ module _ (s bytes : List ℕ) where
   unfolding judge_search
   judged long = rw (eq-eqb (length s) state_length long)
 
-  found_nothing : (log : Log) → (judge_search 0 bytes (length s) 0 ≡ 0 → ⊥) → found 0 log bytes (length s) 0 ≡ Search.nothing
+  by_number : (x : Refusal) → judge_search 0 bytes (length s) 0 ≡ number_of x → SearchPost s bytes (told_search (Err x))
   unfolding found
-  found_nothing log h = rw (ne_eqb (judge_search 0 bytes (length s) 0) 0 h)
-
-  refused : (x : Searched) {n : ℕ} → judge_search 0 bytes (length s) 0 ≡ n → (n ≡ 0 → ⊥) → (x.number ≡ n) × NoLine x.list × (x.read ≡ 0) → SearchPost s bytes x
-  refused x e not_None z = record {
-    number = z.0 ∙ sym e;
-    most = omega (arith, z.1.count);
-    tidy = z.1.tidy;
-    refused = λ _. (z.1.list, z.2);
-    right = λ log r.
-        let nothing = found_nothing log (λ f. not_None (sym e ∙ f)) in
-        rw nothing (z.1.list, z.2);
+  by_number x e = record {
+    number = sym e;
+    most = omega arith;
+    tidy = no_entry_tidy;
+    refused = λ _. (no_entry_listed, refl);
+    right = λ log r. rw (e, not_0 x) (no_entry_listed, refl);
   }
 
-  pub search_not_lent : (x : Searched) → (length s ≡ state_length → ⊥) → (x.number ≡ 12) × NoLine x.list × (x.read ≡ 0) → SearchPost s bytes x
-  search_not_lent x h z = refused x (not_lent h) (λ e. omega arith) z
+  pub search_not_lent : (length s ≡ state_length → ⊥) → SearchPost s bytes (told_search (Err Memory))
+  search_not_lent h = by_number Memory (not_lent h)
 
-  pub search_refused : (x : Searched) (a : Asked) → length s ≡ state_length → AskedPost (asked bytes) a → (a.number ≡ 0 → ⊥)
-      → (x.number ≡ a.number) × NoLine x.list × (x.read ≡ 0) → SearchPost s bytes x
-  search_refused x a long post not_None z = refused x (judged long ∙ sym post.number) not_None z
+  pub search_refused : (x : Refusal) → length s ≡ state_length → asked bytes ≡ refused (number_of x) → SearchPost s bytes (told_search (Err x))
+  search_refused x long e = by_number x (judged long ∙ ap refusal_of e)
 
 -- ---- answered
 
@@ -96,7 +95,7 @@ module _ {bytes ts us : List ℕ} {a : Asked} (asks : Question bytes a) (et : ts
     found_query log = rw (judged s bytes long, asks.free, asks.is)
 
     pub search_right : {x : Outcome} {shown-lines : Lines} → WindowSearch (words s) o n made x → Shows x.list shown-lines
-        → SearchPost s bytes (record { number = 0; list = shown-lines; read = x.read })
+        → SearchPost s bytes (told_search (Ok (record { list = shown-lines; read = x.read })))
     search_right {x} {shown-lines} w shows = record {
       number = sym (judged s bytes long ∙ asks.free);
       most = omega (arith, w.most, shows.count);

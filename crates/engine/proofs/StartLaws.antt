@@ -20,6 +20,7 @@ use Rattle.memory.specs.Words.{fours, words, put_word}
 use Rattle.memory.proofs.WordLaws.{put_word_lem, put_length}
 use Rattle.window.specs.Slot.{ring, held, window}
 use Rattle.query.specs.Record.{HoldsAt}
+use Rattle.engine.proofs.ToldLaws.{zeros_at}
 use Rattle.engine.specs.Represents.{Represents, oldest_of, count_of}
 use Rattle.engine.specs.Post.{fresh_memory, StartPost}
 
@@ -33,11 +34,6 @@ words_zeros : (n : ℕ) → words (zeros (4 * n)) ≡ zeros n
 unfolding words fours
 words_zeros zero = refl
 words_zeros (suc n) = rw four (ap (λ (l : List ℕ). 0 ∷ l) (words_zeros n))
-
-zeros_at : (n i : ℕ) → get_or (zeros n) i 0 ≡ 0
-zeros_at zero i = refl
-zeros_at (suc n) zero = refl
-zeros_at (suc n) (suc i) = zeros_at n i
 
 none_at : (n i : ℕ) → get_or (replicate {A = Option Query} n none) i none ≡ none
 none_at zero i = refl
@@ -113,30 +109,30 @@ accepted_within N T state e = go (in_ranges N T) refl
     go true t = refl
     go false t = let z : ◌≡◌ {A = ℕ} 0 11 = sym e ∙ judged N T state t in absurd (omega arith)
 
-module _ (N T : ℕ) (s : List ℕ) {b : Bool} (test : b ≡ in_ranges N T) where
-  pub out_of_range : b ≡ false → StartPost N T s 11 s
+module _ (N T : ℕ) (s : List ℕ) where
+  pub out_of_range : in_ranges N T ≡ false → StartPost N T s 11 s
   out_of_range e = record {
-    number = sym (judged N T (length s) (sym e ∙ test));
+    number = sym (judged N T (length s) (sym e));
     unchanged = λ _. refl;
     started = λ z. absurd (omega arith);
   }
 
-  module _ (e : b ≡ true) where
+  module _ (e : in_ranges N T ≡ true) where
     pub not_lent : (length s ≡ state_length → ⊥) → StartPost N T s 12 s
     not_lent l = record {
-      number = sym (judged N T (length s) (sym e ∙ test) ∙ rw (ne_eqb (length s) state_length l) refl);
+      number = sym (judged N T (length s) (sym e) ∙ rw (ne_eqb (length s) state_length l) refl);
       unchanged = λ _. refl;
       started = λ z. absurd (omega arith);
     }
 
     -- zeros, then N, then T
-    pub start_right : length s ≡ state_length → {s₁ s₂ s₃ : List ℕ} → s₁ ≡ zeros (length s) → s₂ ≡ put_word s₁ capacity_at N
+    pub start_right : length s ≡ state_length → {s₁ s₂ s₃ : List ℕ} → s₁ ≡ zeros state_length → s₂ ≡ put_word s₁ capacity_at N
         → s₃ ≡ put_word s₂ life_at T → StartPost N T s 0 s₃
     unfolding fresh_memory
     start_right l z n t = record {
-      number = sym (judged N T (length s) (sym e ∙ test) ∙ rw (eq-eqb (length s) state_length l) refl);
+      number = sym (judged N T (length s) (sym e) ∙ rw (eq-eqb (length s) state_length l) refl);
       unchanged = λ h. absurd (h refl);
-      started = λ _. rw (t, n, z, l) refl;
+      started = λ _. rw (t, n, z) refl;
     }
 
 pub fresh_length : (N T : ℕ) → length (fresh_memory N T) ≡ state_length

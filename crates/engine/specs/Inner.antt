@@ -1,6 +1,10 @@
 -- What the functions inside the engine ensure. Assumes nothing.
-use Rattle.std.specs.Prelude.{ℕ, ◌+◌, ◌-◌, ◌%◌, ◌≤◌, ◌<◌, ◌^◌, ◌≡◌, Bool, false, not, ◌&&◌, List, ◌++◌, length, get_or, eqb, ltb}
+use Rattle.std.specs.Prelude.{ℕ, ◌+◌, ◌-◌, ◌%◌, ◌≤◌, ◌<◌, ◌^◌, ◌≡◌, Bool, true, false, not, ◌&&◌, List, ◌++◌, length, get_or, eqb, ltb}
+use Rattle.std.specs.Prelude.{OnErr, IfOk, MatchResult}
+use Rattle.std.specs.Prelude.{Result}
 use Rattle.std.proofs.Math.Option.{Option, none, some}
+use Rattle.paper.specs.declared.refusal.Refusal.{Refusal}
+use Rattle.paper.specs.declared.refusal.Refusal.TheVariants.{NotInUse}
 use Rattle.paper.specs.Frame.{Frame, Valid, numbers}
 use Rattle.paper.specs.Rank.{Query}
 use Rattle.paper.specs.Window.{Message}
@@ -17,6 +21,7 @@ use Rattle.query.specs.Record.{thresholds, HeldAt, HoldsAt, SameRecord}
 use Rattle.query.specs.declared.Move.{Move}
 use Rattle.query.specs.Post.{Change, Tables}
 use Rattle.engine.specs.declared.Reply.{Reply}
+use Rattle.engine.specs.Told.{number_told}
 use Rattle.engine.specs.Represents.{Represents, keeping}
 
 -- whether a message that goes or comes reaches the query at a number
@@ -55,7 +60,6 @@ moving o n o' n' count newest cancelled serial =
 
 -- the window is n' slots from slot o' on, one of which may be cancelled, and every record is updated; the departures are those of the slots that left
 pub record Departed (t cancelled serial o n o' n' : ℕ) (w : List ℕ) (r : Reply) (w' : List ℕ) : Type 0 where
-  pub number : r.number ≡ 0
   pub departures : r.departures ≡ length (live w (ring o (n - n')))
   pub few : r.departures < slots
   pub moved : List ℕ
@@ -64,7 +68,6 @@ pub record Departed (t cancelled serial o n o' n' : ℕ) (w : List ℕ) (r : Rep
 
 -- a message is taken into the slot after the window, which is then `n' + 1` slots from slot `o'` on, and every record is updated
 pub record Joined (m : Message) (o n o' n' : ℕ) (w : List ℕ) (r : Reply) (w' : List ℕ) : Type 0 where
-  pub number : r.number ≡ 0
   pub departures : r.departures ≡ length (live w (ring o (n - n')))
   pub written : List ℕ
   pub message : Written ((o' + n') % slots) m w written
@@ -80,16 +83,20 @@ pub record Accepted (log : Log) (f : Frame) (w : List ℕ) (r : Reply) (w' : Lis
   pub untouched : (q : ℕ) → q < numbers → marked log (keeping w) f q ≡ false → SameRecord w w' q
 
 -- a frame of one kind is judged by the history and taken in
-pub record Did (f : Frame) (s : List ℕ) (r : Reply) (s' : List ℕ) : Type 0 where
-  pub unchanged : (r.number ≡ 0 → ⊥) → (s' ≡ s) × (r.marks ≡ 0) × (r.departures ≡ 0)
-  pub right : (log : Log) → Represents log (words s) → Valid f → (r.number ≡ judge_frame log f) × (r.number ≡ 0 → Accepted log f (words s) r (words s'))
+pub record Did (f : Frame) (s : List ℕ) (r : Result Reply Refusal) (s' : List ℕ) : Type 0 where
+  pub unchanged : OnErr r (s' ≡ s)
+  pub right : (log : Log) → Represents log (words s) → Valid f
+      → (number_told r ≡ judge_frame log f) × IfOk r (λ reply. Accepted log f (words s) reply (words s'))
 
 -- the clock moves on with no message and no query changed
 pub record Ticked (t : ℕ) (w : List ℕ) (r : Reply) (w' : List ℕ) : Type 0 where
-  pub number : r.number ≡ 0
   pub small : r.marks < 2 ^ numbers
   pub right : (log : Log) → Represents log w → t < 2 ^ 32 → log.clock ≤ t → Accepted log (Frame.tick t) w r w'
 
 -- whether the number is that of a record in use
 abbrev pub registered_in : List ℕ → ℕ → Bool
 registered_in w n = ltb n numbers && not (eqb (get_or w (record_at n) 0) 0)
+
+-- the number is that of a record in use, or refused
+abbrev pub Registration : List ℕ → ℕ → Result ℕ Refusal → Type 0
+Registration w n r = MatchResult r (λ q. (q ≡ n) × (registered_in w n ≡ true)) (λ e. (e ≡ NotInUse) × (registered_in w n ≡ false))

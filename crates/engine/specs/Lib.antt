@@ -1,3 +1,4 @@
+pub mod Told
 pub mod Represents
 pub mod Post
 pub mod Inner

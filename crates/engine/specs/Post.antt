@@ -14,18 +14,14 @@ use Rattle.memory.specs.Words.{words, put_word}
 use Rattle.rank.specs.Listing.{lines_of, TidyLines}
 use Rattle.posting.specs.Lines.{line_bytes}
 use Rattle.screen.specs.Lines.{lines_into}
-use Rattle.engine.specs.declared.Reply.{Reply}
-use Rattle.engine.specs.declared.Listing.{Listing}
-use Rattle.engine.specs.declared.Found.{Found}
-use Rattle.engine.specs.declared.Searched.{Searched}
-use Rattle.engine.specs.declared.Compared.{Compared}
+use Rattle.engine.specs.Told.{ToldReply, ToldList, ToldCount, ToldSearch, ToldCloseness}
 use Rattle.engine.specs.Represents.{Represents, keeping}
 
 -- a call with these bytes on state memory of this length; nothing is written into lent output
 abbrev pub call_of : List ℕ → List ℕ → Call
 call_of s bytes = record { bytes = bytes; state = length s; output = 0 }
 
-abbrev pub reply_of : Reply → Demand3.Reply
+abbrev pub reply_of : ToldReply → Demand3.Reply
 reply_of r = record { number = r.number; marks = r.marks; departures = r.departures }
 
 -- the bytes of a query's record
@@ -48,7 +44,7 @@ pub record StartPost (N T : ℕ) (s : List ℕ) (r : ℕ) (s' : List ℕ) : Type
 
 -- For memory that holds a log: the reply and the log after the call are the paper's; a record that the call doesn't mark is the same bytes, and so
 -- keeps the same.
-pub record FrameRight (log : Log) (s bytes : List ℕ) (r : Reply) (s' : List ℕ) : Type 0 where
+pub record FrameRight (log : Log) (s bytes : List ℕ) (r : ToldReply) (s' : List ℕ) : Type 0 where
   pub reply : reply_of r ≡ reply_to 0 log (keeping (words s)) (call_of s bytes)
   pub holds : Represents (after 0 log (call_of s bytes)) (words s')
   pub untouched : (q : ℕ) → q < numbers → marked_by 0 log (keeping (words s)) (call_of s bytes) q ≡ false
@@ -57,7 +53,7 @@ pub record FrameRight (log : Log) (s bytes : List ℕ) (r : Reply) (s' : List �
 -- "Order for a frame: state length (12), then 1 to 10", 14 between 4 and 5 and 13 in the place of 8. Whatever the memory holds, 12, 1 to 6 and 14 are by the
 -- lengths and bytes alone, and
 -- "A refusal returns its number, all else returned is 0, and no memory changes."
-pub record FramePost (s bytes : List ℕ) (r : Reply) (s' : List ℕ) : Type 0 where
+pub record FramePost (s bytes : List ℕ) (r : ToldReply) (s' : List ℕ) : Type 0 where
   pub long : length s' ≡ length s
   pub not_lent : (length s ≡ state_length → ⊥) → r.number ≡ 12
   pub shaped : length s ≡ state_length → (n : ℕ) → shape bytes ≡ refused n → r.number ≡ n
@@ -67,7 +63,7 @@ pub record FramePost (s bytes : List ℕ) (r : Reply) (s' : List ℕ) : Type 0 w
 -- ---- readings
 
 -- "A list reading: 12, 10; its answer holds sixteen serials and scores, unused ones 0, and the number of entries."
-pub record ListPost (s : List ℕ) (n : ℕ) (r : Listing) : Type 0 where
+pub record ListPost (s : List ℕ) (n : ℕ) (r : ToldList) : Type 0 where
   pub not_lent : (length s ≡ state_length → ⊥) → r.number ≡ 12
   pub no_number : length s ≡ state_length → numbers ≤ n → r.number ≡ 10
   pub most : r.list.count ≤ most_listed
@@ -80,7 +76,7 @@ abbrev pub posted_into : Log → ℕ → List ℕ → List ℕ
 posted_into log t out = line_bytes (posted log t) ++ drop (posting_length * length (posted log t)) out
 
 -- "A posting reading: state length, 5, then output length; it returns how many there are and writes each one's serial and impact."
-pub record PostingsPost (s : List ℕ) (t : ℕ) (out : List ℕ) (r : Found) (out' : List ℕ) : Type 0 where
+pub record PostingsPost (s : List ℕ) (t : ℕ) (out : List ℕ) (r : ToldCount) (out' : List ℕ) : Type 0 where
   pub long : length out' ≡ length out
   pub not_lent : (length s ≡ state_length → ⊥) → r.number ≡ 12
   pub no_term : length s ≡ state_length → 2 ^ term_width ≤ t → r.number ≡ 5
@@ -90,7 +86,7 @@ pub record PostingsPost (s : List ℕ) (t : ℕ) (out : List ℕ) (r : Found) (o
 
 -- "judged by 12 and then 1 to 6", whatever the memory holds. "The reply is the list that registering would give, and the postings read, equal to the steps
 -- of this rule": paper's search of the log. The memory is lent to be read only.
-pub record SearchPost (s bytes : List ℕ) (r : Searched) : Type 0 where
+pub record SearchPost (s bytes : List ℕ) (r : ToldSearch) : Type 0 where
   pub number : r.number ≡ judge_search 0 bytes (length s) 0
   pub most : r.list.count ≤ most_listed
   pub tidy : TidyLines r.list
@@ -98,12 +94,12 @@ pub record SearchPost (s bytes : List ℕ) (r : Searched) : Type 0 where
   pub right : (log : Log) → Represents log (words s)
       → (lines_of r.list ≡ lines (found 0 log bytes (length s) 0).list) × (r.read ≡ (found 0 log bytes (length s) 0).read)
 
-abbrev pub close_of : Compared → Closeness
+abbrev pub close_of : ToldCloseness → Closeness
 close_of r = record { quotient = r.quotient; remainder = r.remainder }
 
 -- "Arguments are a serial in force and a registered query, refused as 13 and 10, in that order, after 12." Whatever the memory holds, no message has a
 -- serial above 1,048,575, no query a number above 31, and no quotient is above 1,000. The memory is lent to be read only.
-pub record ClosenessPost (s : List ℕ) (serial n : ℕ) (r : Compared) : Type 0 where
+pub record ClosenessPost (s : List ℕ) (serial n : ℕ) (r : ToldCloseness) : Type 0 where
   pub not_lent : (length s ≡ state_length → ⊥) → r.number ≡ 12
   pub no_serial : length s ≡ state_length → 2 ^ serial_width ≤ serial → r.number ≡ 13
   pub no_number : length s ≡ state_length → numbers ≤ n → (r.number ≡ 13) ⊎ (r.number ≡ 10)
@@ -116,7 +112,7 @@ pub record ClosenessPost (s : List ℕ) (serial n : ℕ) (r : Compared) : Type 0
 -- "B above 512 is refused as 5, after the state length (12) and before the output's (12), which must hold B lines": whatever the memory holds, by the
 -- lengths and B alone. There are never more than B lines, and nothing is written past them. "The reply is these lines in order .. and their number." The
 -- memory is lent to be read only.
-pub record ScreenPost (s : List ℕ) (B : ℕ) (out : List ℕ) (r : Found) (out' : List ℕ) : Type 0 where
+pub record ScreenPost (s : List ℕ) (B : ℕ) (out : List ℕ) (r : ToldCount) (out' : List ℕ) : Type 0 where
   pub number : r.number ≡ judge_screen B (length s) (length out)
   pub most : r.count ≤ B
   pub long : length out' ≡ length out

@@ -1,22 +1,23 @@
 // The engine: frames in, a ranked list for each registered query kept in lent memory.
 #![tactic(auto)]
 
-ghost use Rattle.std.specs.Prelude.{◌≡◌, ℕ, ◌+◌, ◌%◌, ◌<◌, ◌≤◌, ◌^◌, map, length, get_or, replicate, take};
+ghost use Rattle.std.specs.Prelude.{◌≡◌, ℕ, ◌+◌, ◌%◌, ◌<◌, ◌≤◌, ◌^◌, map, length, get_or, take};
 ghost use Rattle.paper.specs.Frame.{Form, Frame, level, urgency_of, grade_of, numbers};
 ghost use Rattle.paper.specs.Frame.{term_width, count_width, weight_width, most_pairs, most_terms, most_listed};
 ghost use Rattle.paper.specs.Frame.Urgency.{vital};
 ghost use Rattle.paper.specs.Write.{side_by_side};
 ghost use Rattle.paper.specs.Window.{most_messages, arrival};
-ghost use Rattle.paper.specs.Layout.{state_length, slots, capacity_at};
+ghost use Rattle.paper.specs.Layout.{slots, capacity_at};
 ghost use Rattle.paper.specs.Log.{in_ranges};
+ghost use Rattle.wire.specs.Bits.{Bytes};
 ghost use Rattle.memory.specs.Words.{words};
-ghost use Rattle.rank.specs.Listing.{NoLine};
+ghost use Rattle.engine.specs.Told.{number_told, told_reply, told_list, told_count, told_search, told_closeness};
 ghost use Rattle.engine.specs.Post.{StartPost, FramePost, ListPost, PostingsPost, SearchPost, ClosenessPost, ScreenPost};
 ghost use Rattle.window.specs.Slot.{slot};
 ghost use Rattle.window.specs.Table.{term_limit, RaisedBy};
 ghost use Rattle.window.specs.Cursor.{Moved};
 ghost use Rattle.query.specs.Post.{arriving};
-ghost use Rattle.engine.specs.Inner.{Silenced, Passed, Followed, Departed, Joined, Did, Ticked, registered_in};
+ghost use Rattle.engine.specs.Inner.{Silenced, Passed, Followed, Departed, Joined, Did, Ticked, Registration};
 
 use candidates::Query;
 use closeness::Closeness;
@@ -31,47 +32,18 @@ const NUMBERS: u32 = paper::NUMBERS as u32;
 
 const TERMS: u32 = paper::TERMS as u32;
 
+// The marks of the queries that a frame reaches, registers or drops, and how many messages departed.
 #[derive(Clone, Copy)]
 pub struct Reply {
-    pub number: u32,
     pub marks: u32,
     pub departures: u32,
 }
 
-#[derive(Clone, Copy)]
-pub struct Listing {
-    pub number: u32,
-    pub list: Lines,
-}
-
-#[derive(Clone, Copy)]
-pub struct Found {
-    pub number: u32,
-    pub count: u32,
-}
-
+// A search's list, and how many postings were read for it.
 #[derive(Clone, Copy)]
 pub struct Searched {
-    pub number: u32,
     pub list: Lines,
     pub read: u32,
-}
-
-#[derive(Clone, Copy)]
-pub struct Compared {
-    pub number: u32,
-    pub quotient: u32,
-    pub remainder: u32,
-}
-
-fn refused(number: u32) -> Reply
-    ensures { (result.number ≡ number) × (result.marks ≡ 0) × (result.departures ≡ 0) }
-{
-    Reply {
-        number,
-        marks: 0,
-        departures: 0,
-    }
 }
 
 // Marks with that of q, which isn't among them.
@@ -86,44 +58,22 @@ fn with_mark(marks: u32, q: usize) -> u32
 fn in_range(capacity: u32, life: u32) -> bool
     ensures { result ≡ in_ranges capacity life }
 {
-    if capacity == 0 {
-        return false;
-    }
-    if paper::MOST_MESSAGES < capacity {
-        return false;
-    }
-    if life == 0 {
-        return false;
-    }
-    life <= paper::LONGEST_LIFE
+    (1..=paper::MOST_MESSAGES).contains(&capacity) && (1..=paper::LONGEST_LIFE).contains(&life)
 }
 
-// Every byte becomes 0.
-fn zeroed(state: &mut [u8])
-    ensures { state.new ≡ replicate (length state.old) 0 }
+pub fn start(state: &mut [u8], capacity: u32, life: u32) -> Result<(), Refusal>
+    ensures { StartPost capacity life state.old (number_told result) state.new }
 {
-    let mut i: usize = 0;
-    while i < state.len() {
-        state[i] = 0;
-        i += 1;
+    if !in_range(capacity, life) {
+        return Err(Refusal::Start);
     }
-}
-
-pub fn start(state: &mut [u8], capacity: u32, life: u32) -> u32
-    ensures { StartPost capacity life state.old result state.new }
-{
-    let within = in_range(capacity, life);
-    let length = state.len();
-    if !within {
-        return 11;
-    }
-    if length != layout::STATE {
-        return 12;
-    }
-    zeroed(state);
+    let Some(state) = state.as_mut_array::<{ layout::STATE }>() else {
+        return Err(Refusal::Memory);
+    };
+    state.fill(0);
     memory::put(state, layout::CAPACITY, capacity);
     memory::put(state, layout::LIFE, life);
-    0
+    Ok(())
 }
 
 // A table raised to the impacts of the message in slot j, where that is one.
@@ -152,14 +102,12 @@ fn pass(state: &mut State, moved: Move, coming: &[u16], going: &[u16]) -> u32
     ensures { Passed numbers (words state.old) moved coming.now going.now result (words state.new) }
 {
     let mut marks: u32 = 0;
-    let mut q: usize = 0;
-    while q < paper::NUMBERS {
+    for q in 0..paper::NUMBERS {
         if query::in_use(state, q) {
             if query::update(state, q, moved, coming, going) {
                 marks += wire::pow2(q);
             }
         }
-        q += 1;
     }
     marks
 }
@@ -182,12 +130,7 @@ fn update_all(state: &mut State, moved: Move) -> u32
 fn capacity_of(state: &State) -> u32
     ensures { (result ≤ most_messages) × (get_or (words state.now) capacity_at 0 ≤ most_messages → result ≡ get_or (words state.now) capacity_at 0) }
 {
-    let capacity = memory::get(state, layout::CAPACITY);
-    if capacity < paper::MOST_MESSAGES {
-        capacity
-    } else {
-        paper::MOST_MESSAGES
-    }
+    memory::get(state, layout::CAPACITY).min(paper::MOST_MESSAGES)
 }
 
 // A message joins the window in the slot after those that stay: never one that departs with it, which the queries still look at.
@@ -228,7 +171,6 @@ fn join(
     };
     let marks = update_all(state, moved);
     Reply {
-        number: 0,
         marks,
         departures: departures as u32,
     }
@@ -243,7 +185,7 @@ fn message(
     m: usize,
     terms: [u16; MOST_PAIRS],
     counts: [u8; MOST_PAIRS],
-) -> Reply
+) -> Result<Reply, Refusal>
     requires in_bounds { urgency ≤ level vital }
     requires le_m { (1 ≤ m) × (m ≤ most_pairs) }
     requires by_index { (i : ℕ) → i < m → (get_or terms i 0 < 2 ^ term_width) × (get_or counts i 0 < 2 ^ count_width) }
@@ -251,17 +193,17 @@ fn message(
 {
     let before = Cursor::load(state);
     if time < before.clock {
-        return refused(7);
+        return Err(Refusal::Time);
     }
     let life = memory::get(state, layout::LIFE);
     let aged = before.advanced(state, life, time);
     if window::has_serial(state, aged.oldest, aged.count, serial) {
-        return refused(8);
+        return Err(Refusal::Serial);
     }
     let after = aged.roomy(capacity_of(state));
-    join(
+    Ok(join(
         state, before, after, time, serial, urgency, m, terms, counts,
-    )
+    ))
 }
 
 // The window without its oldest messages, and without that of slot `cancelled`, which has this serial, where that is one; the departures of the oldest.
@@ -286,7 +228,6 @@ fn depart(state: &mut State, before: Cursor, after: Cursor, cancelled: usize, se
     };
     let marks = update_all(state, moved);
     Reply {
-        number: 0,
         marks,
         departures: departures as u32,
     }
@@ -302,13 +243,13 @@ fn advance(state: &mut State, time: u32) -> Reply
     depart(state, before, after, layout::SLOTS, 0)
 }
 
-fn tick(state: &mut State, time: u32) -> Reply
+fn tick(state: &mut State, time: u32) -> Result<Reply, Refusal>
     ensures { Did (Frame.tick time) state.old result state.new }
 {
     if time < memory::get(state, layout::CLOCK) {
-        return refused(7);
+        return Err(Refusal::Time);
     }
-    advance(state, time)
+    Ok(advance(state, time))
 }
 
 fn register(
@@ -319,68 +260,64 @@ fn register(
     n: usize,
     terms: [u32; 8],
     weights: [u32; 8],
-) -> Reply
+) -> Result<Reply, Refusal>
     requires number_lt_numbers { (number < numbers) × (1 ≤ k) × (k ≤ most_listed) × (1 ≤ n) × (n ≤ most_terms) }
     requires by_index { (i : ℕ) → i < n → (get_or terms i 0 < 2 ^ term_width) × (get_or weights i 0 < 2 ^ weight_width) }
     ensures { Did (Frame.register time number k (side_by_side n terms weights)) state.old result state.new }
 {
     if time < memory::get(state, layout::CLOCK) {
-        return refused(7);
+        return Err(Refusal::Time);
     }
     if query::in_use(state, number) {
-        return refused(9);
+        return Err(Refusal::InUse);
     }
     let reply = advance(state, time);
     let cursor = Cursor::load(state);
     let oldest = cursor.oldest;
     let count = cursor.count;
     query::register(state, number, k, n, terms, weights, oldest, count);
-    Reply {
-        number: 0,
+    Ok(Reply {
         marks: with_mark(reply.marks, number),
         departures: reply.departures,
-    }
+    })
 }
 
-fn unregister(state: &mut State, time: u32, number: usize) -> Reply
+fn unregister(state: &mut State, time: u32, number: usize) -> Result<Reply, Refusal>
     requires number_lt_numbers { number < numbers }
     ensures { Did (Frame.unregister time number) state.old result state.new }
 {
     if time < memory::get(state, layout::CLOCK) {
-        return refused(7);
+        return Err(Refusal::Time);
     }
     if !query::in_use(state, number) {
-        return refused(10);
+        return Err(Refusal::NotInUse);
     }
     query::clear(state, number);
     let reply = advance(state, time);
-    Reply {
-        number: 0,
+    Ok(Reply {
         marks: with_mark(reply.marks, number),
         departures: reply.departures,
-    }
+    })
 }
 
 // The message in force with the serial departs, and past messages with it.
-fn cancel(state: &mut State, time: u32, serial: u32) -> Reply
+fn cancel(state: &mut State, time: u32, serial: u32) -> Result<Reply, Refusal>
     ensures { Did (Frame.cancel time serial) state.old result state.new }
 {
     let before = Cursor::load(state);
     if time < before.clock {
-        return refused(7);
+        return Err(Refusal::Time);
     }
     let life = memory::get(state, layout::LIFE);
     let after = before.advanced(state, life, time);
-    let cancelled = window::slot_of(state, after.oldest, after.count, serial);
-    if layout::SLOTS <= cancelled {
-        return refused(13);
-    }
+    let Some(cancelled) = window::slot_of(state, after.oldest, after.count, serial) else {
+        return Err(Refusal::NotInForce);
+    };
     let reply = depart(state, before, after, cancelled, serial);
-    Reply {
-        number: 0,
+    Ok(Reply {
         marks: reply.marks,
         departures: reply.departures + 1,
-    }
+    })
 }
 
 // The terms and weights of a query.
@@ -398,26 +335,21 @@ fn first_eight(terms: [u16; MOST_PAIRS], weights: [u8; MOST_PAIRS]) -> Weighted
         terms: [0u32; 8],
         weights: [0u32; 8],
     };
-    let mut i: usize = 0;
-    while i < 8 {
-        few.terms[i] = terms[i] as u32;
-        few.weights[i] = weights[i] as u32;
-        i += 1;
+    for i in 0..8 {
+        few.terms[i] = u32::from(terms[i]);
+        few.weights[i] = u32::from(weights[i]);
     }
     few
 }
 
-pub fn frame(state: &mut [u8], bytes: &[u8]) -> Reply
-    ensures { FramePost state.old bytes.now result state.new }
+// A frame of any kind, on memory of the right length. That an array holds bytes after a call is for the caller to say.
+fn by_kind(state: &mut State, bytes: &[u8]) -> Result<Reply, Refusal>
+    ensures { Bytes state.new → FramePost state.old bytes.now (told_reply result) state.new }
 {
-    if state.len() != layout::STATE {
-        return refused(12);
-    }
-    let parsed = frame::read(bytes);
-    let what = parsed.what;
+    let parsed = frame::read(bytes)?;
     let terms = parsed.terms;
     let amounts = parsed.amounts;
-    match what {
+    match parsed.what {
         Kind::Message {
             time,
             serial,
@@ -433,101 +365,73 @@ pub fn frame(state: &mut [u8], bytes: &[u8]) -> Reply
             terms: n,
         } => {
             let few = first_eight(terms, amounts);
-            let terms = few.terms;
-            let weights = few.weights;
-            register(state, time, number as usize, k, n, terms, weights)
+            register(state, time, number as usize, k, n, few.terms, few.weights)
         }
         Kind::Unregister { time, number } => unregister(state, time, number as usize),
         Kind::Cancel { time, serial } => cancel(state, time, serial),
-        Kind::Refused(r) => refused(r),
     }
 }
 
-// Whether a query is registered under the number, which may be any.
-fn registered(state: &State, number: u32) -> bool
-    ensures { result ≡ registered_in (words state.now) number }
+pub fn frame(state: &mut [u8], bytes: &[u8]) -> Result<Reply, Refusal>
+    ensures { FramePost state.old bytes.now (told_reply result) state.new }
 {
-    number < NUMBERS && query::in_use(state, number as usize)
+    let Some(state) = state.as_mut_array::<{ layout::STATE }>() else {
+        return Err(Refusal::Memory);
+    };
+    by_kind(state, bytes)
 }
 
-pub fn list(state: &[u8], number: u32) -> Listing
-    ensures { ListPost state.now number result }
+// The number, which may be any, where a query is registered under it.
+fn registered(state: &State, number: u32) -> Result<usize, Refusal>
+    ensures { Registration (words state.now) number result }
 {
-    if state.len() != layout::STATE {
-        return Listing {
-            number: 12,
-            list: Lines::none(),
-        };
-    }
-    if !registered(state, number) {
-        return Listing {
-            number: 10,
-            list: Lines::none(),
-        };
-    }
-    Listing {
-        number: 0,
-        list: Lines::of(query::load_list(state, number as usize)),
+    if number < NUMBERS && query::in_use(state, number as usize) {
+        Ok(number as usize)
+    } else {
+        Err(Refusal::NotInUse)
     }
 }
 
-// The postings of a term, into out: serial and impact of each, four bytes each.
-pub fn postings(state: &[u8], term: u32, out: &mut [u8]) -> Found
-    ensures { PostingsPost state.now term out.old result out.new }
+pub fn list(state: &[u8], number: u32) -> Result<Lines, Refusal>
+    ensures { ListPost state.now number (told_list result) }
 {
-    if state.len() != layout::STATE {
-        return Found {
-            number: 12,
-            count: 0,
-        };
-    }
+    let Some(state) = state.as_array::<{ layout::STATE }>() else {
+        return Err(Refusal::Memory);
+    };
+    let q = registered(state, number)?;
+    Ok(Lines::of(query::load_list(state, q)))
+}
+
+// The postings of a term, into out: serial and impact of each, four bytes each. How many there are.
+pub fn postings(state: &[u8], term: u32, out: &mut [u8]) -> Result<u32, Refusal>
+    ensures { PostingsPost state.now term out.old (told_count result) out.new }
+{
+    let Some(state) = state.as_array::<{ layout::STATE }>() else {
+        return Err(Refusal::Memory);
+    };
     if TERMS <= term {
-        return Found {
-            number: 5,
-            count: 0,
-        };
+        return Err(Refusal::Value);
     }
     let cursor = Cursor::load(state);
     let oldest = cursor.oldest;
     let count = cursor.count;
     let found = posting::having(state, oldest, count, term);
     if out.len() / 8 < found {
-        return Found {
-            number: 12,
-            count: 0,
-        };
+        return Err(Refusal::Memory);
     }
     posting::write(state, oldest, count, term, out);
-    Found {
-        number: 0,
-        count: found as u32,
-    }
-}
-
-fn unanswered(number: u32) -> Searched
-    ensures { (result.number ≡ number) × NoLine result.list × (result.read ≡ 0) }
-{
-    Searched {
-        number,
-        list: Lines::none(),
-        read: 0,
-    }
+    Ok(found as u32)
 }
 
 // The list that registering the frame's query would give, and the postings that a search for it reads.
-pub fn search(state: &[u8], bytes: &[u8]) -> Searched
-    ensures { SearchPost state.entry.now bytes.now result × (state.exit.now ≡ state.entry.now) }
+pub fn search(state: &[u8], bytes: &[u8]) -> Result<Searched, Refusal>
+    ensures { SearchPost state.entry.now bytes.now (told_search result) × (state.exit.now ≡ state.entry.now) }
 {
-    if state.len() != layout::STATE {
-        return unanswered(12);
-    }
-    let asked = frame::read_asked(bytes);
-    if asked.number != 0 {
-        return unanswered(asked.number);
-    }
-    let terms = asked.terms;
-    let weights = asked.weights;
-    let few = first_eight(terms, weights);
+    let Some(state) = state.as_array::<{ layout::STATE }>() else {
+        return Err(Refusal::Memory);
+    };
+    let asked = frame::read_asked(bytes)?;
+    let few = first_eight(asked.terms, asked.weights);
     let terms = few.terms;
     let weights = few.weights;
     let query = Query {
@@ -537,81 +441,46 @@ pub fn search(state: &[u8], bytes: &[u8]) -> Searched
         weights,
     };
     let cursor = Cursor::load(state);
-    let oldest = cursor.oldest;
-    let count = cursor.count;
-    let outcome = search::search(state, oldest, count, query);
-    Searched {
-        number: 0,
+    let outcome = search::search(state, cursor.oldest, cursor.count, query);
+    Ok(Searched {
         list: Lines::of(outcome.list),
         read: outcome.read,
-    }
-}
-
-fn uncompared(number: u32) -> Compared
-    ensures { (result.number ≡ number) × (result.quotient ≡ 0) × (result.remainder ≡ 0) }
-{
-    Compared {
-        number,
-        quotient: 0,
-        remainder: 0,
-    }
+    })
 }
 
 // How close the message in force with the serial is to the query under the number. The slot of a cancelled message has a number above all serials in the
 // place of its own: so what is above them isn't looked for.
-pub fn closeness(state: &[u8], serial: u32, number: u32) -> Compared
-    ensures { ClosenessPost state.entry.now serial number result × (state.exit.now ≡ state.entry.now) }
+pub fn closeness(state: &[u8], serial: u32, number: u32) -> Result<Closeness, Refusal>
+    ensures { ClosenessPost state.entry.now serial number (told_closeness result) × (state.exit.now ≡ state.entry.now) }
 {
-    if state.len() != layout::STATE {
-        return uncompared(12);
-    }
+    let Some(state) = state.as_array::<{ layout::STATE }>() else {
+        return Err(Refusal::Memory);
+    };
     if paper::SERIALS <= serial {
-        return uncompared(13);
+        return Err(Refusal::NotInForce);
     }
     let cursor = Cursor::load(state);
-    let j = window::slot_of(state, cursor.oldest, cursor.count, serial);
-    if layout::SLOTS <= j {
-        return uncompared(13);
-    }
-    let used = registered(state, number);
-    if !used {
-        return uncompared(10);
-    }
-    let query = query::load_query(state, number as usize);
-    let close = Closeness::of(state, j, query);
-    Compared {
-        number: 0,
-        quotient: close.quotient,
-        remainder: close.remainder,
-    }
+    let Some(j) = window::slot_of(state, cursor.oldest, cursor.count, serial) else {
+        return Err(Refusal::NotInForce);
+    };
+    let q = registered(state, number)?;
+    Ok(Closeness::of(state, j, query::load_query(state, q)))
 }
 
-// The lines of one screen for all queries, into out: number, serial and score of each.
-pub fn screen(state: &[u8], lines: u32, out: &mut [u8]) -> Found
-    ensures { ScreenPost state.entry.now lines out.old result out.new × (state.exit.now ≡ state.entry.now) }
+// The lines of one screen for all queries, into out: number, serial and score of each. How many there are.
+pub fn screen(state: &[u8], lines: u32, out: &mut [u8]) -> Result<u32, Refusal>
+    ensures { ScreenPost state.entry.now lines out.old (told_count result) out.new × (state.exit.now ≡ state.entry.now) }
 {
-    if state.len() != layout::STATE {
-        return Found {
-            number: 12,
-            count: 0,
-        };
-    }
+    let Some(state) = state.as_array::<{ layout::STATE }>() else {
+        return Err(Refusal::Memory);
+    };
     if screen::MOST_LINES < lines {
-        return Found {
-            number: 5,
-            count: 0,
-        };
+        return Err(Refusal::Value);
     }
     let lines = lines as usize;
     if out.len() < screen::LINE * lines {
-        return Found {
-            number: 12,
-            count: 0,
-        };
+        return Err(Refusal::Memory);
     }
     let placed = screen::share(state, lines, out);
-    Found {
-        number: 0,
-        count: placed as u32,
-    }
+    Ok(placed as u32)
 }

@@ -1,12 +1,28 @@
 -- `list` meets its contract. Assumes nothing.
 use native.Mathlib.Omega.{arith}
-use borrow.Author.Rules.{rules}
-use Rattle.engine.proofs.ListLaws.{list_unused, list_right}
+use mathlib.Core.Path.{refl}
+use Rattle.core.proofs.result.Match.{err_is}
+use Rattle.memory.specs.Words.{words}
+use Rattle.engine.proofs.ListLaws.{list_not_lent, list_unused, list_right}
+use Rattle.engine.proofs.RepresentsLaws.{registered_below}
 use Rattle.engine.proofs.list.Goals as goal
 
-pub returns-then-not-registered : goal.returns-then-not-registered
-returns-then-not-registered c =
-    list_unused _ _ (omega arith) c.registered.ensures c.if-not-registered.true c.none-then-not-registered.ensures
+pub returns-in_default : goal.returns-in_default
+returns-in_default c = list_not_lent _ _ c.in_default.ensures.cases
+
+pub returns-in_err-q : goal.returns-in_err-q
+returns-in_err-q c =
+    let lent = c.in-Some.ensures.cases in
+    let free = rw lent.same at c.in_err-q.ensures in
+    rw (err_is c.from_residual.result c.in_err-q.field-0.0 c.from_residual.ensures.1, free.0) (list_unused _ _ lent.long free.1 refl)
+
+pub load_list-requires : goal.load_list-requires
+load_list-requires c =
+    let used = c.in_ok-q.ensures in
+    omega (arith, used.0, registered_below (words c.in-Some.state.now) c.args.number used.1)
 
 pub returns : goal.returns
-returns c = list_right _ _ (omega arith) c.registered.ensures (search rules) (search rules) c.of.ensures
+returns c =
+    let lent = c.in-Some.ensures.cases in
+    let used = rw lent.same at c.in_ok-q.ensures in
+    list_right _ _ lent.long used.1 refl (rw (lent.same, used.0) at c.load_list.ensures) c.of.ensures

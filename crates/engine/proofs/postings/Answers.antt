@@ -4,10 +4,15 @@ use Rattle.engine.proofs.PostingLaws.{postings_no_term, postings_no_room, postin
 use Rattle.engine.proofs.postings.Goals as goal
 
 pub returns-then-term-ge-TERMS : goal.returns-then-term-ge-TERMS
-returns-then-term-ge-TERMS c = postings_no_term _ _ _ (omega arith) (omega arith)
+returns-then-term-ge-TERMS c = postings_no_term _ _ _ c.in-Some.ensures.cases.long (omega arith)
 
 pub returns-then-out-found : goal.returns-then-out-found
-returns-then-out-found c = postings_no_room _ _ _ (omega arith) (omega arith) c.load-cursor.ensures c.having-found.ensures (omega arith)
+returns-then-out-found c =
+    let lent = c.in-Some.ensures.cases in
+    postings_no_room _ _ _ lent.long (omega arith) (rw lent.same at c.load-cursor.ensures) (rw lent.same at c.having-found.ensures) (omega arith)
 
 pub returns : goal.returns
-returns c = postings_right _ _ _ (omega arith) (omega arith) c.load-cursor.ensures c.having-found.ensures (omega arith) c.write.ensures
+returns c =
+    let lent = c.in-Some.ensures.cases in
+    postings_right _ _ _ lent.long (omega arith) (rw lent.same at c.load-cursor.ensures) (rw lent.same at c.having-found.ensures) (omega arith)
+    (rw lent.same at c.write.ensures)

@@ -1,15 +1,15 @@
 -- `start` meets its contract. Assumes nothing.
-use native.Mathlib.Omega.{arith}
+use mathlib.Core.Path.{sym}
 use Rattle.engine.proofs.StartLaws.{out_of_range, not_lent, start_right}
 use Rattle.engine.proofs.start.Goals as goal
 
-pub returns-then-not-within : goal.returns-then-not-within
-returns-then-not-within c = out_of_range _ _ _ c.in_range-within.ensures c.if-not-within.true
+pub returns-then-not-in_range : goal.returns-then-not-in_range
+returns-then-not-in_range c = out_of_range _ _ _ (sym c.if-not-in_range.ensures)
 
-pub returns-then-length-ne-STATE : goal.returns-then-length-ne-STATE
-returns-then-length-ne-STATE c = not_lent _ _ _ c.in_range-within.ensures c.if-not-within.false (λ e. omega arith)
+pub returns-in_default : goal.returns-in_default
+returns-in_default c = not_lent _ _ _ (sym c.if-not-in_range.ensures) c.in_default.ensures.cases
 
 pub returns : goal.returns
 returns c =
-    start_right _ _ _ c.in_range-within.ensures c.if-not-within.false (omega arith) c.zeroed.ensures c.put.ensures
-    c.put-2.ensures
+    let lent = c.in-Some.ensures.cases in
+    start_right _ _ _ (sym c.if-not-in_range.ensures) lent.long (rw (c.fill.ensures.after (λ y e. e), lent.same, lent.long)) c.put.ensures c.put-2.ensures
