@@ -31,7 +31,7 @@ use Rattle.window.specs.Table.{term_limit}
 use Rattle.window.specs.Rows.{row_width, found, touches, Narrow, LookedAt}
 use Rattle.window.proofs.RingLaws.{ring_step, ring_none}
 use Rattle.window.proofs.SlotLaws.{silent_cells}
-use Rattle.candidates.specs.declared.Query.{Query}
+use Rattle.candidates.specs.declared.query.Query.{Query}
 use Rattle.candidates.specs.Flags.{flag_of}
 use Rattle.candidates.specs.Post.{Rising, WithFlag, terms_of, line_in, grows}
 use Rattle.candidates.specs.Match.{score_cells, exceeds_cells}

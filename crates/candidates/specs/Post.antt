@@ -7,7 +7,7 @@ use Rattle.wire.specs.Bits.{bits}
 use Rattle.impact.specs.Cell.{RisingTerms}
 use Rattle.rank.specs.Listing.{Keyed, grown}
 use Rattle.window.specs.Slot.{slot, ring}
-use Rattle.candidates.specs.declared.Query.{Query}
+use Rattle.candidates.specs.declared.query.Query.{Query}
 use Rattle.candidates.specs.Match.{exceeds_cells, scored}
 use Rattle.candidates.specs.Flags.{flag_of}
 

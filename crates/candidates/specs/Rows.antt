@@ -11,7 +11,7 @@ use Rattle.rank.specs.Listing.{keyed_of, Tidy}
 use Rattle.window.specs.Slot.{slot, ring}
 use Rattle.window.specs.Table.{term_limit}
 use Rattle.window.specs.Rows.{row_width, Narrow}
-use Rattle.candidates.specs.declared.Query.{Query}
+use Rattle.candidates.specs.declared.query.Query.{Query}
 use Rattle.candidates.specs.Flags.{flag_of}
 use Rattle.candidates.specs.Post.{Rising, exceeds_in, line_in, grows}
 

@@ -16,7 +16,7 @@ use Rattle.impact.specs.Cell.{most_squares, cells_of, squares_of, cell_squares}
 use Rattle.impact.proofs.CellLaws.{count_cells, squares_cells, squares_side}
 use Rattle.rank.specs.Weights.{weighted_sum}
 use Rattle.window.specs.Slot.{Slot, stored}
-use Rattle.candidates.specs.declared.Query.{Query}
+use Rattle.candidates.specs.declared.query.Query.{Query}
 use Rattle.candidates.specs.Post.{terms_of}
 use Rattle.candidates.proofs.MeasureLaws.{score_found}
 use Rattle.query.specs.Post.{Is}

@@ -9,7 +9,7 @@ use Rattle.paper.specs.Closeness as Paper
 use Rattle.impact.specs.Cell.{cell_count, cell_with}
 use Rattle.rank.specs.Weights.{most_weight}
 use Rattle.window.specs.Slot.{Slot, stored}
-use Rattle.candidates.specs.declared.Query.{Query}
+use Rattle.candidates.specs.declared.query.Query.{Query}
 use Rattle.query.specs.Post.{Is}
 use Rattle.closeness.specs.declared.Closeness.{Closeness}
 

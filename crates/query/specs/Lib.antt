@@ -1,3 +1,4 @@
 pub mod Record
+pub mod Move
 pub mod Post
 pub mod Touch

@@ -19,12 +19,12 @@ use Rattle.rank.specs.Listing.{keyed, keyed_with, keyed_of, last_score_of, least
 use Rattle.rank.specs.Weights.{weight_limit, weighted_sum, Raised}
 use Rattle.window.specs.Slot.{slot, grade_in, stored, ring, live}
 use Rattle.window.specs.Table.{TableOf}
-use Rattle.candidates.specs.declared.Query.{Query}
+use Rattle.candidates.specs.declared.query.Query.{Query}
 use Rattle.candidates.specs.Match.{exceeds_cells}
 use Rattle.candidates.specs.Flags.{flag_of, in_ring}
 use Rattle.candidates.specs.Post.{terms_of}
 use Rattle.candidates.specs.Rows.{Known, Having, Rows}
-use Rattle.query.specs.declared.Move.{Move}
+use Rattle.query.specs.Move.{Move}
 use Rattle.query.specs.declared.Touch.{Touch}
 use Rattle.query.specs.Record.{thresholds, flags, keys, Says, Held, Holds}
 

@@ -12,14 +12,19 @@ ghost use Rattle.window.specs.Rows.{row_width};
 ghost use Rattle.rank.specs.Listing.{score_limit, line_with};
 ghost use Rattle.rank.specs.Weights.{weight_limit};
 ghost use Rattle.query.specs.Record.{keys, listed_at};
+ghost use Rattle.query.specs.Move.{in_slots, arrived_slot, cancelled_slot};
 ghost use Rattle.query.specs.Touch.{Touched};
 ghost use Rattle.query.specs.Post.{InRange, LoadedQuery, LoadedThresholds, LoadedList, Lifted, secure, StoredKept, Finished, Attempted, SiftedFrom};
 ghost use Rattle.query.specs.Post.{Retuned, Refilled, SettledFrom, WithoutOne, MovedFlags, Least, KeptList, WithoutGone, WithNewest, Changed};
 ghost use Rattle.query.specs.Post.{Updated, Packed, PutQuery, Registered, Cleared};
 
+mod moves;
+
 use candidates::Query;
+pub use moves::{Arrived, Cancelled, Move};
 use paper::{State, layout};
 use rank::Ranked;
+use window::Span;
 
 // What the words of a record are clamped to: k, the number of terms, a term, and a weight, which shares a word with its term.
 const MOST_LISTED: u32 = paper::MOST_LISTED as u32;
@@ -216,13 +221,13 @@ fn settled(state: &mut State, q: usize, picked: &[u16], query: Query, thresholds
 }
 
 // The query is settled over the whole window, from zero thresholds.
-fn refill(state: &mut State, q: usize, first: usize, count: usize, query: Query)
-    requires in_bounds { (q < numbers) × (first < slots) × (count < slots) }
+fn refill(state: &mut State, q: usize, messages: Span, query: Query)
+    requires in_bounds { (q < numbers) × (messages.count < slots) }
     requires in_range { InRange query }
-    ensures { Refilled (words state.old) q first count query (words state.new) }
+    ensures { Refilled (words state.old) q messages.first messages.count query (words state.new) }
 {
     let mut picked = [0u16; layout::SLOTS];
-    let m = candidates::having(state, first, count, query, &mut picked);
+    let m = candidates::having(state, messages, query, &mut picked);
     let _done = settled(state, q, &picked[..m], query, [0u32; 8]);
 }
 
@@ -230,35 +235,21 @@ fn refill(state: &mut State, q: usize, first: usize, count: usize, query: Query)
 fn settle(
     state: &mut State,
     q: usize,
-    first: usize,
-    count: usize,
+    messages: Span,
     flags: [u32; 9],
     query: Query,
     thresholds: [u32; 8],
 )
-    requires in_bounds { (q < numbers) × (first < slots) × (count < slots) }
+    requires in_bounds { (q < numbers) × (messages.count < slots) }
     requires in_range { InRange query }
     requires in_scale { (i : ℕ) → get_or thresholds i 0 ≤ top }
-    ensures { SettledFrom (words state.old) q first count flags query thresholds (words state.new) }
+    ensures { SettledFrom (words state.old) q messages.first messages.count flags query thresholds (words state.new) }
 {
     let mut picked = [0u16; layout::SLOTS];
-    let m = candidates::flagged_slots(first, count, flags, &mut picked);
+    let m = candidates::flagged_slots(messages, flags, &mut picked);
     if !settled(state, q, &picked[..m], query, thresholds) {
-        refill(state, q, first, count, query);
+        refill(state, q, messages, query);
     }
-}
-
-// What a frame moves: `departed` messages from slot `gone` on leave, and that of slot `cancelled` with this serial where there is one; the window is then
-// `count` slots from slot `first` on, and a message arrived in slot `newest` where that is one.
-#[derive(Clone, Copy)]
-pub struct Move {
-    pub gone: usize,
-    pub departed: usize,
-    pub first: usize,
-    pub count: usize,
-    pub newest: usize,
-    pub cancelled: usize,
-    pub serial: u32,
 }
 
 // What a query's terms have in the messages that come and go: whether the one that comes exceeds a threshold and its score, whether one that goes does,
@@ -302,29 +293,28 @@ fn touched(state: &State, q: usize, coming: &[u16], going: &[u16]) -> Touch
     }
 }
 
-// The flags without that of slot j, where there is such a slot.
-fn without_one(flags: [u32; 9], j: usize) -> [u32; 9]
-    ensures { WithoutOne flags j result }
+// The flags without that of a cancelled message, where there is one.
+fn without_one(flags: [u32; 9], cancelled: Option<Cancelled>) -> [u32; 9]
+    ensures { WithoutOne flags (cancelled_slot cancelled) result }
 {
-    if j < layout::SLOTS {
-        return candidates::with_flag(flags, j, false);
+    match cancelled {
+        Some(cancelled) => candidates::with_flag(flags, cancelled.slot, false),
+        None => flags,
     }
-    flags
 }
 
 // The candidates' flags at the thresholds that stand: without those that left, and with the one that came where it exceeds one of them.
 fn moved_flags(state: &State, q: usize, moved: Move, comes: bool) -> [u32; 9]
-    requires { (q < numbers) × (moved.gone < slots) }
-    ensures { MovedFlags (words state.now) q moved comes result }
+    requires { q < numbers }
+    ensures { MovedFlags (words state.now) q (in_slots moved) comes result }
 {
-    let newest = moved.newest;
     let flags = memory::load::<9>(state, layout::RECORDS + layout::RECORD * q + layout::FLAGS);
-    let later = candidates::without(flags, moved.gone, moved.departed);
+    let later = candidates::without(flags, moved.gone);
     let rest = without_one(later, moved.cancelled);
-    if newest < layout::SLOTS {
-        return candidates::with_flag(rest, newest, comes);
+    match moved.newest {
+        Some(newest) => candidates::with_flag(rest, newest.slot, comes),
+        None => rest,
     }
-    rest
 }
 
 // The least key by which a message that goes or comes can change the list: that of the last entry of a full one, that of any score of one that isn't.
@@ -357,18 +347,18 @@ fn keep_list(state: &mut State, q: usize, flags: [u32; 9])
 
 // The list without the messages that leave, where one of them scores enough to be in it.
 fn without_gone(state: &State, moved: Move, went: u32, least: u32, list: Ranked) -> Ranked
-    requires { (moved.gone < slots) × (list.count ≤ most_listed) }
-    ensures { WithoutGone (words state.now) moved went least list result }
+    requires { list.count ≤ most_listed }
+    ensures { WithoutGone (words state.now) (in_slots moved) went least list result }
 {
     let mut rest = list;
     if went < least / rank::KEY_FACTOR {
         return rest;
     }
-    for j in window::slots_from(moved.gone, moved.departed) {
+    for j in moved.gone {
         rest = rank::removed(rest, window::serial_in(state, j));
     }
-    if moved.cancelled < layout::SLOTS {
-        return rank::removed(rest, moved.serial);
+    if let Some(cancelled) = moved.cancelled {
+        return rank::removed(rest, cancelled.serial);
     }
     rest
 }
@@ -376,20 +366,20 @@ fn without_gone(state: &State, moved: Move, went: u32, least: u32, list: Ranked)
 // The list with the arriving message, where there is one and it changes it.
 fn with_newest(
     state: &State,
-    newest: usize,
+    newest: Option<Arrived>,
     came: u32,
     k: usize,
     least: u32,
     list: Ranked,
 ) -> Ranked
     requires { (k ≤ most_listed) × (list.count ≤ most_listed) × (came < score_limit) }
-    ensures { WithNewest (words state.now) newest came k least list result }
+    ensures { WithNewest (words state.now) (arrived_slot newest) came k least list result }
 {
-    if layout::SLOTS <= newest {
+    let Some(Arrived { slot }) = newest else {
         return list;
-    }
+    };
     // one that only scores as much as the last entry may stand behind others of that score that aren't listed
-    let key = rank::key(came, window::urgency_in(state, newest));
+    let key = rank::key(came, window::urgency_in(state, slot));
     if key < least {
         return list;
     }
@@ -397,7 +387,7 @@ fn with_newest(
     if k < list.count {
         return list;
     }
-    let serial = window::serial_in(state, newest);
+    let serial = window::serial_in(state, slot);
     rank::inserted(list, k, serial, key)
 }
 
@@ -405,21 +395,20 @@ fn with_newest(
 fn sift(
     state: &mut State,
     q: usize,
-    first: usize,
-    count: usize,
+    messages: Span,
     flags: [u32; 9],
     query: Query,
     raised: [u32; 8],
     list: Ranked,
 )
-    requires in_bounds { (q < numbers) × (first < slots) × (count < slots) }
+    requires in_bounds { (q < numbers) × (messages.count < slots) }
     requires in_range { InRange query }
     requires list_fits { list.count ≤ most_listed }
-    ensures { SiftedFrom (words state.old) q first count flags query raised list (words state.new) }
+    ensures { SiftedFrom (words state.old) q messages.first messages.count flags query raised list (words state.new) }
 {
     let mut picked = [0u16; layout::SLOTS];
     let mut rows = [0u16; candidates::ROWS];
-    let m = candidates::flagged_slots(first, count, flags, &mut picked);
+    let m = candidates::flagged_slots(messages, flags, &mut picked);
     let picked = &picked[..m];
     candidates::look(state, picked, query, &mut rows);
     finish(state, q, picked, &rows, query, raised, list);
@@ -429,35 +418,33 @@ fn sift(
 fn retune(
     state: &mut State,
     q: usize,
-    first: usize,
-    count: usize,
+    messages: Span,
     flags: [u32; 9],
     query: Query,
     thresholds: [u32; 8],
     list: Ranked,
 )
-    requires in_bounds { (q < numbers) × (first < slots) × (count < slots) }
+    requires in_bounds { (q < numbers) × (messages.count < slots) }
     requires in_range { InRange query }
     requires list_fits { list.count ≤ most_listed }
     requires in_scale { (i : ℕ) → get_or thresholds i 0 ≤ top }
-    ensures { Retuned (words state.old) q first count flags query thresholds list (words state.new) }
+    ensures { Retuned (words state.old) q messages.first messages.count flags query thresholds list (words state.new) }
 {
     let next = raised(query, thresholds, list);
     if next == thresholds {
         store(state, q, thresholds, list, flags);
     } else {
-        sift(state, q, first, count, flags, query, next, list);
+        sift(state, q, messages, flags, query, next, list);
     }
 }
 
 // The list changes in place. Where it was full and no longer is, a message that wasn't listed may have to be.
 fn change(state: &mut State, q: usize, moved: Move, touch: Touch, least: u32, flags: [u32; 9])
-    requires in_bounds { (q < numbers) × (moved.gone < slots) × (moved.first < slots) × (moved.count < slots) }
+    requires in_bounds { q < numbers }
     requires score_fits { touch.came < score_limit }
-    ensures { Changed (words state.old) q moved touch least flags (words state.new) }
+    ensures { Changed (words state.old) q (in_slots moved) touch least flags (words state.new) }
 {
-    let first = moved.first;
-    let count = moved.count;
+    let messages = moved.window;
     let query = load_query(state, q);
     let thresholds = load_thresholds(state, q);
     let list = load_list(state, q);
@@ -465,17 +452,17 @@ fn change(state: &mut State, q: usize, moved: Move, touch: Touch, least: u32, fl
     let rest = without_gone(state, moved, touch.went, least, list);
     let next = with_newest(state, moved.newest, touch.came, k, least, rest);
     if (list.count == k) & (next.count != k) {
-        settle(state, q, first, count, flags, query, thresholds);
+        settle(state, q, messages, flags, query, thresholds);
     } else {
-        retune(state, q, first, count, flags, query, thresholds, next);
+        retune(state, q, messages, flags, query, thresholds, next);
     }
 }
 
 // A query is updated where a frame reaches it; the tables have the impacts that come and the greatest that go, of all terms.
 pub fn update(state: &mut State, q: usize, moved: Move, coming: &[u16], going: &[u16]) -> bool
-    requires in_bounds { (q < numbers) × (moved.gone < slots) × (moved.first < slots) × (moved.count < slots) }
+    requires in_bounds { q < numbers }
     requires whole_tables { (length coming.now ≡ term_limit) × (length going.now ≡ term_limit) }
-    ensures { Updated (words state.old) q moved coming.now going.now result (words state.new) }
+    ensures { Updated (words state.old) q (in_slots moved) coming.now going.now result (words state.new) }
 {
     let touch = touched(state, q, coming, going);
     if !(touch.comes | touch.goes) {
@@ -506,48 +493,37 @@ pub fn clear(state: &mut State, q: usize)
 }
 
 // The words of a query's pairs, each a term with its weight; 0 past its n terms.
-fn packed(n: usize, terms: [u32; 8], weights: [u32; 8]) -> [u32; 8]
-    requires within_terms { n ≤ most_terms }
-    requires pairs_fit { (i : ℕ) → i < n → (get_or terms i 0 < term_limit) × (get_or weights i 0 < weight_limit) }
-    ensures { Packed (side_by_side n terms weights) result }
+fn packed(query: Query) -> [u32; 8]
+    requires pairs_fit { (i : ℕ) → i < query.n → (get_or query.terms i 0 < term_limit) × (get_or query.weights i 0 < weight_limit) }
+    ensures { Packed (side_by_side query.n query.terms query.weights) result }
 {
     let mut pairs = [0u32; 8];
-    for i in 0..n {
-        pairs[i] = terms[i] * WEIGHT_LIMIT + weights[i];
+    for i in 0..query.n {
+        pairs[i] = query.terms[i] * WEIGHT_LIMIT + query.weights[i];
     }
     pairs
 }
 
 // A query is written: the length of its list, how many terms it has, and each with its weight.
-fn put_query(state: &mut State, q: usize, k: u32, n: usize, terms: [u32; 8], weights: [u32; 8])
-    requires in_bounds { (q < numbers) × (n ≤ most_terms) }
-    requires pairs_fit { (i : ℕ) → i < n → (get_or terms i 0 < term_limit) × (get_or weights i 0 < weight_limit) }
-    ensures { PutQuery q (record { k = k; terms = side_by_side n terms weights }) (words state.old) (words state.new) }
+fn put_query(state: &mut State, q: usize, query: Query)
+    requires in_bounds { (q < numbers) × (query.k ≤ most_listed) }
+    requires pairs_fit { (i : ℕ) → i < query.n → (get_or query.terms i 0 < term_limit) × (get_or query.weights i 0 < weight_limit) }
+    ensures { PutQuery q (record { k = query.k; terms = side_by_side query.n query.terms query.weights }) (words state.old) (words state.new) }
 {
     let at = layout::RECORDS + layout::RECORD * q;
-    memory::put(state, at, k);
-    memory::put(state, at + layout::SIZE, n as u32);
-    let pairs = packed(n, terms, weights);
-    memory::store(state, at + layout::PAIRS, pairs);
+    memory::put(state, at, query.k as u32);
+    memory::put(state, at + layout::SIZE, query.n as u32);
+    memory::store(state, at + layout::PAIRS, packed(query));
 }
 
 // A query is registered over the window.
-pub fn register(
-    state: &mut State,
-    q: usize,
-    k: u32,
-    n: usize,
-    terms: [u32; 8],
-    weights: [u32; 8],
-    first: usize,
-    count: usize,
-)
-    requires in_bounds { (q < numbers) × (first < slots) × (count < slots) }
-    requires in_range { (1 ≤ k) × (k ≤ most_listed) × (1 ≤ n) × (n ≤ most_terms) }
-    requires pairs_fit { (i : ℕ) → i < n → (get_or terms i 0 < term_limit) × (get_or weights i 0 < weight_limit) }
-    ensures { Registered (words state.old) q first count (record { k = k; terms = side_by_side n terms weights }) (words state.new) }
+pub fn register(state: &mut State, q: usize, query: Query, messages: Span)
+    requires in_bounds { (q < numbers) × (messages.count < slots) }
+    requires in_range { (1 ≤ query.k) × (query.k ≤ most_listed) × (1 ≤ query.n) }
+    requires pairs_fit { (i : ℕ) → i < query.n → (get_or query.terms i 0 < term_limit) × (get_or query.weights i 0 < weight_limit) }
+    ensures { Registered (words state.old) q messages.first messages.count (record { k = query.k; terms = side_by_side query.n query.terms query.weights }) (words state.new) }
 {
-    put_query(state, q, k, n, terms, weights);
+    put_query(state, q, query);
     let query = load_query(state, q);
-    refill(state, q, first, count, query);
+    refill(state, q, messages, query);
 }

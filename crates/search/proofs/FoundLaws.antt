@@ -33,7 +33,7 @@ use Rattle.rank.specs.declared.Ranked.{Ranked}
 use Rattle.rank.specs.Listing.{keyed, keyed_of, Empty}
 use Rattle.rank.specs.Weights.{weight_limit}
 use Rattle.window.specs.Slot.{Slot, slot, stored, ring, live}
-use Rattle.candidates.specs.declared.Query.{Query}
+use Rattle.candidates.specs.declared.query.Query.{Query}
 use Rattle.candidates.specs.Post.{Rising, grows}
 use Rattle.candidates.specs.Rows.{Known, Having, Gathered, Rows, RankedRows}
 use Rattle.candidates.proofs.RowLaws.{having_live, having_grows}

@@ -11,7 +11,7 @@ use Rattle.rank.specs.declared.Ranked.{Ranked}
 use Rattle.rank.specs.Listing.{keyed, keyed_of, last_score_of, Tidy}
 use Rattle.rank.specs.Weights.{weight_limit, Below}
 use Rattle.window.specs.Rows.{row_width}
-use Rattle.candidates.specs.declared.Query.{Query}
+use Rattle.candidates.specs.declared.query.Query.{Query}
 use Rattle.query.specs.Post.{Is, Over}
 use Rattle.search.specs.declared.Outcome.{Outcome}
 use Rattle.search.specs.Cut.{sum_at, read_at}

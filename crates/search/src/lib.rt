@@ -15,6 +15,7 @@ ghost use Rattle.search.specs.Post.{Fit, height_limit, Column, Columns, column, 
 use candidates::Query;
 use paper::{State, layout};
 use rank::Ranked;
+use window::Span;
 
 const MOST_TERMS: u32 = paper::MOST_TERMS as u32;
 
@@ -162,13 +163,13 @@ fn postings_read(columns: &AllColumns, m: usize, query: Query, list: Ranked) -> 
     read_at(columns, m, query, end)
 }
 
-// The search over the window that is `count` slots from slot `first` on.
-pub fn search(state: &State, first: usize, count: usize, query: Query) -> Outcome
-    requires { (first < slots) × (count < slots) × Fit query }
-    ensures { WindowSearch (words state.now) first count query result }
+// The search over the window.
+pub fn search(state: &State, messages: Span, query: Query) -> Outcome
+    requires { (messages.count < slots) × Fit query }
+    ensures { WindowSearch (words state.now) messages.first messages.count query result }
 {
     let mut picked = [0u16; layout::SLOTS];
-    let m = candidates::having(state, first, count, query, &mut picked);
+    let m = candidates::having(state, messages, query, &mut picked);
     // No list is full then, and nothing is halved: unless it is said here, the compiler makes a second halving for this case.
     if m == 0 {
         return Outcome {

@@ -61,14 +61,26 @@ impl Iterator for Slots {
     }
 }
 
-// The `count` slots from slot `first` on.
-pub fn slots_from(first: usize, count: usize) -> Slots
-    requires { first < slots }
-    ensures { (result.at ≡ first) × (result.left ≡ count) }
-{
-    Slots {
-        at: first,
-        left: count,
+// A run of slots of the ring: `count` of them, from slot `first` on.
+#[derive(Clone, Copy)]
+pub struct Span {
+    pub first: usize,
+    pub count: usize,
+    pub ghost in_ring: { first < slots },
+}
+
+impl IntoIterator for Span {
+    type Item = usize;
+
+    type IntoIter = Slots;
+
+    ghost into_iter_gives = { λ span s. (s.at ≡ span.first) × (s.left ≡ span.count) };
+
+    fn into_iter(self) -> Slots {
+        Slots {
+            at: self.first,
+            left: self.count,
+        }
     }
 }
 
@@ -171,12 +183,12 @@ fn raise_impacts(state: &State, j: usize, table: &mut [u16])
     }
 }
 
-// The same for all of the `count` messages from slot `first` on.
-pub fn raise_all(state: &State, first: usize, count: usize, table: &mut [u16])
-    requires { (first < slots) × (length table.old ≡ term_limit) }
-    ensures { (length table.new ≡ term_limit) × RaisedBy (window (words state.now) first count) table.old table.new }
+// The same for all messages of a run of slots.
+pub fn raise_all(state: &State, messages: Span, table: &mut [u16])
+    requires { length table.old ≡ term_limit }
+    ensures { (length table.new ≡ term_limit) × RaisedBy (window (words state.now) messages.first messages.count) table.old table.new }
 {
-    for j in slots_from(first, count) {
+    for j in messages {
         raise_impacts(state, j, table);
     }
 }
@@ -211,50 +223,51 @@ pub fn look_at(state: &State, j: usize, places: &[u8], rows: &mut [u16], at: usi
     }
 }
 
+// The clock, and the run of slots that is the window.
 #[derive(Clone, Copy)]
 pub struct Cursor {
     pub clock: u32,
-    pub oldest: usize,
-    pub count: usize,
+    pub messages: Span,
 }
 
 impl Cursor {
     // The cursor that the header says, brought into range.
     pub fn load(state: &State) -> Cursor
-        ensures { Loaded (words state.now) result.clock result.oldest result.count }
+        ensures { Loaded (words state.now) result.clock result.messages.first result.messages.count }
     {
         let oldest = memory::get(state, layout::OLDEST) as usize;
         let count = memory::get(state, layout::COUNT) as usize;
         Cursor {
             clock: memory::get(state, layout::CLOCK),
-            oldest: oldest % layout::SLOTS,
-            count: count % layout::SLOTS,
+            messages: Span {
+                first: oldest % layout::SLOTS,
+                count: count % layout::SLOTS,
+            },
         }
     }
 
     // The clock moves on, and past messages go.
     pub fn advanced(mut self, state: &State, life: u32, clock: u32) -> Cursor
-        requires { self.oldest < slots }
-        ensures { Advanced (words state.now) life self.oldest self.count clock result.clock result.oldest result.count }
+        ensures { Advanced (words state.now) life self.messages.first self.messages.count clock result.clock result.messages.first result.messages.count }
     {
         self.clock = clock;
-        while 0 < self.count {
-            let time = time_in(state, self.oldest);
+        while 0 < self.messages.count {
+            let time = time_in(state, self.messages.first);
             if !is_past(life, clock, time) {
                 break;
             }
-            self.oldest = following(self.oldest);
-            self.count -= 1;
+            self.messages.first = following(self.messages.first);
+            self.messages.count -= 1;
         }
         self
     }
 
     // Room for one more message: the oldest goes where `capacity` are there.
     pub fn roomy(self, capacity: u32) -> Cursor
-        requires { (self.oldest < slots) × (self.count < slots) }
-        ensures { Roomy capacity self.clock self.oldest self.count result.clock result.oldest result.count }
+        requires { self.messages.count < slots }
+        ensures { Roomy capacity self.clock self.messages.first self.messages.count result.clock result.messages.first result.messages.count }
     {
-        let count = self.count;
+        let count = self.messages.count;
         if count < capacity as usize {
             return self;
         }
@@ -263,20 +276,22 @@ impl Cursor {
         }
         Cursor {
             clock: self.clock,
-            oldest: following(self.oldest),
-            count: count - 1,
+            messages: Span {
+                first: following(self.messages.first),
+                count: count - 1,
+            },
         }
     }
 }
 
 // The header says this cursor.
-pub fn put_cursor(state: &mut State, clock: u32, oldest: usize, count: usize)
-    requires in_ring { (oldest < slots) × (count < slots) }
-    ensures { PutCursor clock oldest count (words state.old) (words state.new) }
+pub fn put_cursor(state: &mut State, cursor: Cursor)
+    requires { cursor.messages.count < slots }
+    ensures { PutCursor cursor.clock cursor.messages.first cursor.messages.count (words state.old) (words state.new) }
 {
-    memory::put(state, layout::CLOCK, clock);
-    memory::put(state, layout::OLDEST, oldest as u32);
-    memory::put(state, layout::COUNT, count as u32);
+    memory::put(state, layout::CLOCK, cursor.clock);
+    memory::put(state, layout::OLDEST, cursor.messages.first as u32);
+    memory::put(state, layout::COUNT, cursor.messages.count as u32);
 }
 
 // Whether one of the messages in the slots from `first` up to `end` has the serial. All are looked at, without a branch: no slot's test waits for
@@ -292,12 +307,13 @@ fn serial_among(state: &State, first: usize, end: usize, serial: u32) -> bool
     found
 }
 
-// Whether one of the `count` messages from slot `first` on has the serial: those up to the last slot, and those from slot 0 on.
-pub fn has_serial(state: &State, first: usize, count: usize, serial: u32) -> bool
-    requires { (first < slots) × (count < slots) }
-    ensures { result ≡ holds_serial serial (window (words state.now) first count) }
+// Whether one of the messages has the serial: those up to the ring's last slot, and those from slot 0 on.
+pub fn has_serial(state: &State, messages: Span, serial: u32) -> bool
+    requires { messages.count < slots }
+    ensures { result ≡ holds_serial serial (window (words state.now) messages.first messages.count) }
 {
-    let end = first + count;
+    let first = messages.first;
+    let end = first + messages.count;
     if end <= layout::SLOTS {
         return serial_among(state, first, end, serial);
     }
@@ -305,12 +321,11 @@ pub fn has_serial(state: &State, first: usize, count: usize, serial: u32) -> boo
         | serial_among(state, 0, end - layout::SLOTS, serial)
 }
 
-// The slot of the first of the `count` messages from slot `first` on that has the serial, slot by slot; none where none has.
-fn walk_to(state: &State, first: usize, count: usize, serial: u32) -> Option<usize>
-    requires { first < slots }
-    ensures { Sought (words state.now) serial (ring first count) result }
+// The slot of the first of the messages that has the serial, slot by slot; none where none has.
+fn walk_to(state: &State, messages: Span, serial: u32) -> Option<usize>
+    ensures { Sought (words state.now) serial (ring messages.first messages.count) result }
 {
-    for j in slots_from(first, count) {
+    for j in messages {
         if serial_in(state, j) == serial {
             return Some(j);
         }
@@ -322,31 +337,31 @@ fn walk_to(state: &State, first: usize, count: usize, serial: u32) -> Option<usi
 const AT_ONCE: usize = 16;
 
 // The same slot. Runs of slots without the serial are passed over whole.
-pub fn slot_of(state: &State, first: usize, count: usize, serial: u32) -> Option<usize>
-    requires { first < slots }
-    ensures { Sought (words state.now) serial (ring first count) result }
+pub fn slot_of(state: &State, messages: Span, serial: u32) -> Option<usize>
+    ensures { Sought (words state.now) serial (ring messages.first messages.count) result }
 {
-    let mut j = first;
-    let mut left = count;
-    while 0 < left {
+    let mut rest = messages;
+    while 0 < rest.count {
         // no more than are left of the window, and of the ring up to its end
-        let run = AT_ONCE.min(left).min(layout::SLOTS - j);
-        if serial_among(state, j, j + run, serial) {
-            return walk_to(state, j, left, serial);
+        let first = rest.first;
+        let run = AT_ONCE.min(rest.count).min(layout::SLOTS - first);
+        if serial_among(state, first, first + run, serial) {
+            return walk_to(state, rest, serial);
         }
-        j = (j + run) % layout::SLOTS;
-        left -= run;
+        rest = Span {
+            first: (first + run) % layout::SLOTS,
+            count: rest.count - run,
+        };
     }
     None
 }
 
-// How many of the `count` messages from slot `first` on are in force.
-pub fn in_force(state: &State, first: usize, count: usize) -> usize
-    requires { first < slots }
-    ensures { (result ≡ length (live (words state.now) (ring first count))) × (result ≤ count) }
+// How many of the messages are in force.
+pub fn in_force(state: &State, messages: Span) -> usize
+    ensures { (result ≡ length (live (words state.now) (ring messages.first messages.count))) × (result ≤ messages.count) }
 {
     let mut found: usize = 0;
-    for j in slots_from(first, count) {
+    for j in messages {
         if 0 < size_in(state, j) {
             found += 1;
         }
