@@ -340,18 +340,16 @@ const AT_ONCE: usize = 16;
 pub fn slot_of(state: &State, messages: Span, serial: u32) -> Option<usize>
     ensures { Sought (words state.now) serial (ring messages.first messages.count) result }
 {
-    let mut rest = messages;
-    while 0 < rest.count {
+    let mut first = messages.first;
+    let mut left = messages.count;
+    while 0 < left {
         // no more than are left of the window, and of the ring up to its end
-        let first = rest.first;
-        let run = AT_ONCE.min(rest.count).min(layout::SLOTS - first);
+        let run = AT_ONCE.min(left).min(layout::SLOTS - first);
         if serial_among(state, first, first + run, serial) {
-            return walk_to(state, rest, serial);
+            return walk_to(state, Span { first, count: left }, serial);
         }
-        rest = Span {
-            first: (first + run) % layout::SLOTS,
-            count: rest.count - run,
-        };
+        first = (first + run) % layout::SLOTS;
+        left -= run;
     }
     None
 }

@@ -4,7 +4,7 @@ use Rattle.query.proofs.PlaceLaws.{leaving_all, leaving_next, cancelled_leaves, 
 use Rattle.query.proofs.without_gone.Goals as goal
 
 pub loop-j-init : goal.loop-j-init
-loop-j-init c = let s = c.slots_from-j-items.ensures in rw (c.into_iter-j-iterator.ensures.into_iter_gives, s.0, s.1) leaving_all
+loop-j-init c = let s = c.into_iter-j-iterator.ensures.into_iter_gives in rw (s.0, s.1) leaving_all
 
 pub loop-j-preserved : goal.loop-j-preserved
 loop-j-preserved c =

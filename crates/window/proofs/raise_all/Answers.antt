@@ -4,7 +4,7 @@ use Rattle.window.proofs.TableLaws.{raising_none, slots_next, slots_end}
 use Rattle.window.proofs.raise_all.Goals as goal
 
 pub loop-j-init : goal.loop-j-init
-loop-j-init c = let s = c.slots_from-j-items.ensures in rw (c.into_iter-j-iterator.ensures.into_iter_gives, s.0, s.1) (search (rules, raising_none))
+loop-j-init c = let s = c.into_iter-j-iterator.ensures.into_iter_gives in rw (s.0, s.1) (search (rules, raising_none))
 
 pub loop-j-preserved : goal.loop-j-preserved
 loop-j-preserved c =

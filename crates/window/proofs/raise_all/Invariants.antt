@@ -9,4 +9,4 @@ use Rattle.window.proofs.raise_all.Given as goal
 -- the messages in the iterator's slots are left
 abbrev pub invariant-loop-j : goal.invariant-loop-j
 invariant-loop-j l = (length l.table ≡ term_limit)
-    × Slots (words l.state) l.first l.count l.initial.table l.j-iterator.at l.j-iterator.left l.table
+    × Slots (words l.state) l.fn.messages.first l.fn.messages.count l.initial.table l.j-iterator.at l.j-iterator.left l.table

@@ -6,9 +6,10 @@ use Rattle.memory.specs.Words.{words}
 use Rattle.window.specs.Slot.{ring, seek}
 use Rattle.window.proofs.slot_of.Given as goal
 
--- the serial is to be looked for in the slots that are left, from slot j on
+-- the serial is to be looked for in the slots that are left, from `first` on
 abbrev pub invariant-loop-left : goal.invariant-loop-left
-invariant-loop-left l = (l.j < slots) × (seek (words l.state) l.serial (ring l.j l.left) ≡ seek (words l.state) l.serial (ring l.first l.count))
+invariant-loop-left l = (l.first < slots)
+    × (seek (words l.state) l.serial (ring l.first l.left) ≡ seek (words l.state) l.serial (ring l.fn.messages.first l.fn.messages.count))
 
 abbrev pub decreases-loop-left : goal.decreases-loop-left
 decreases-loop-left l = l.left

@@ -9,9 +9,9 @@ pub loop-self-preserved : goal.loop-self-preserved
 loop-self-preserved c =
     let l = c.loop-self.invariant in (
       l.0,
-      moved_step (omega arith) l.1 (omega arith) c.following.ensures,
+      moved_step (omega arith) l.1 (omega arith) c.following-self.ensures,
       past_go _ _ _ (omega arith) _ _ c.time_in-time.ensures c.is_past.ensures c.if-not-is_past.false
-          c.following.ensures
+          c.following-self.ensures
           ∙ l.2,
     )
 

@@ -7,9 +7,9 @@ use Rattle.window.proofs.Cursor.advanced.Given as goal
 
 abbrev pub invariant-loop-self : goal.invariant-loop-self
 invariant-loop-self l = (l.self.clock ≡ l.clock)
-    × Moved l.initial.self.oldest l.initial.self.count l.self.oldest l.self.count
-    × (drop_past l.life l.clock (window (words l.state) l.self.oldest l.self.count)
-    ≡ drop_past l.life l.clock (window (words l.state) l.initial.self.oldest l.initial.self.count))
+    × Moved l.initial.self.messages.first l.initial.self.messages.count l.self.messages.first l.self.messages.count
+    × (drop_past l.life l.clock (window (words l.state) l.self.messages.first l.self.messages.count)
+    ≡ drop_past l.life l.clock (window (words l.state) l.initial.self.messages.first l.initial.self.messages.count))
 
 abbrev pub decreases-loop-self : goal.decreases-loop-self
-decreases-loop-self l = l.self.count
+decreases-loop-self l = l.self.messages.count
