@@ -265,7 +265,7 @@ less_fits n w h = go (ltb 0 n) refl (leb n 256) refl
         same true ec = rw ec (lt-ltb (n - 1) (2 ^ w) (omega (arith, ltb-true 0 n ea, leb-true n (2 ^ w) ec)))
         same false ec = rw ec (le-ltb (n - 1) (2 ^ w) (omega (arith, leb-false n (2 ^ w) ec)))
 
-pub less_is : (n : ℕ) → 0 < n → n ≤ 256 → less_one n ≡ n - 1
+less_is : (n : ℕ) → 0 < n → n ≤ 256 → less_one n ≡ n - 1
 less_is n h k = rw (lt-ltb 0 n h, le-leb n 256 k)
 
 pub less_within : (n w : ℕ) → w ≤ 8 → within (2 ^ w) n ≡ true → less_one n ≡ n - 1
@@ -274,12 +274,6 @@ less_within n w h e =
     let l : 0 < n = ltb-true 0 n (and_left (ltb 0 n) (leb n (2 ^ w)) e) in
     let m : n ≤ 2 ^ w = leb-true n (2 ^ w) (and_right (ltb 0 n) (leb n (2 ^ w)) e) in
     less_is n l (omega arith)
-
-pub less_none : (n : ℕ) → n ≡ 0 → less_one n ≡ 2 ^ 32 - 1
-less_none n h = rw h
-
-pub less_over : (n : ℕ) → 0 < n → 256 < n → less_one n ≡ 2 ^ 32 - 1
-less_over n h k = rw (lt-ltb 0 n h, lt-leb n 256 k)
 
 -- the values of the fields of a message with a grade
 pub graded_values : (x : Fields) (values : List ℕ) → GradedKind x.kind → values ≡ x.time ∷ x.serial ∷ x.urgency ∷ less_one x.pairs ∷ 0 ∷ []

@@ -60,8 +60,14 @@ length_pair_bits w (suc n) [] us h k = absurd (not-suc-le-zero h)
 length_pair_bits w (suc n) (t ∷ ts) [] h k = absurd (not-suc-le-zero k)
 length_pair_bits w (suc n) (t ∷ ts) (u ∷ us) h k =
     length-append (bits term_width t) (bits w u ++ pair_bits w n ts us)
-    ∙ omega (arith, length_bits term_width t, length-append (bits w u) (pair_bits w n ts us), length_bits w u,
-        length_pair_bits w n ts us (le_of_suc-le-suc h) (le_of_suc-le-suc k), suc-mul n (term_width + w))
+    ∙ omega (
+      arith,
+      length_bits term_width t,
+      length-append (bits w u) (pair_bits w n ts us),
+      length_bits w u,
+      length_pair_bits w n ts us (le_of_suc-le-suc h) (le_of_suc-le-suc k),
+      suc-mul n (term_width + w),
+    )
 
 -- one pair more
 pair_bits_more : (w i : ℕ) (ts us : List ℕ) → i < length ts → i < length us

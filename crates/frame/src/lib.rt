@@ -364,11 +364,8 @@ fn sound_pair(term: u32, amount: u32, limit: u32) -> bool
 fn less_one(n: usize) -> u32
     ensures { result ≡ less_one n }
 {
-    if n == 0 {
-        return 4294967295;
-    }
-    if 256 < n {
-        return 4294967295;
+    if n == 0 || 256 < n {
+        return u32::MAX;
     }
     (n - 1) as u32
 }
@@ -424,10 +421,7 @@ fn judge_pairs(width: usize, pairs: usize, terms: &[u16], amounts: &[u8]) -> Res
     requires { width < 32 }
     ensures { verdict result ≡ pairs_verdict width pairs terms.now amounts.now }
 {
-    if terms.len() < pairs {
-        return Err(Refusal::Value);
-    }
-    if amounts.len() < pairs {
+    if terms.len() < pairs || amounts.len() < pairs {
         return Err(Refusal::Value);
     }
     let limit = 1u32 << width;

@@ -1,5 +1,5 @@
 -- The search for the impact: the places that the impact of a count of 1 leaves, and the greatest of them that meets the rule. Assumes nothing.
-use Prim.Native.Nat.{ℕ, zero, suc, ◌+◌, ◌-◌, ◌*◌, ◌/◌, ◌≤◌, ◌<◌, min}
+use Prim.Native.Nat.{ℕ, zero, suc, ◌+◌, ◌-◌, ◌*◌, ◌/◌, ◌≤◌, ◌<◌, min, max}
 use native.Mathlib.Nat.{
   mul_assoc,
   mul-zero,
@@ -100,3 +100,10 @@ module _ (f n u : ℕ) (positive : 0 < n) where
           let d = mul_right_comm (w * w) (fine * fine) n in
           let k = mul_assoc (f * f) ((u + 1) * (u + 1)) n in
           omega arith
+
+  -- the impact lies between the two places; v is what `unit` is asked for
+  pub between : {v low high : ℕ} → v ≡ max n 1 → (u * u * v ≤ reach * reach) × (reach * reach < (u + 1) * (u + 1) * v) → low ≡ min (f * u / fine) top
+      → high ≡ min ((f * u + f) / fine) top → (low ≤ impact f n) × (impact f n ≤ high)
+  between {v} e h l r =
+      let k : v ≡ n = omega arith in
+      (rw l (low_place (rw k at h.0)), rw r (high_place (rw k at h.1)))

@@ -1,7 +1,7 @@
 // The impact of a term in a message: the cosine of document 001, scaled to whole numbers.
 #![tactic(auto)]
 
-ghost use Rattle.std.specs.Prelude.{◌≡◌, ℕ, ◌+◌, ◌*◌, ◌/◌, ◌^◌, ◌<◌, ◌≤◌, min, max, get_or};
+ghost use Rattle.std.specs.Prelude.{◌≡◌, ℕ, ◌+◌, ◌*◌, ◌/◌, ◌^◌, ◌<◌, ◌≤◌, min, get_or};
 ghost use Rattle.paper.specs.Frame.{term_width, count_width, most_pairs};
 ghost use Rattle.paper.specs.Impact.{top, impact};
 ghost use Rattle.impact.specs.Cell.{impact_width, packed, cell_count, squares_of};
@@ -26,7 +26,7 @@ impl Impact {
         requires { count < 2 ^ count_width }
         ensures { result.value ≡ impact count squares }
     {
-        let parts = count as u64 * unit(greater(squares, 1));
+        let parts = count as u64 * unit(squares.max(1));
         let low = place_of(parts);
         let high = place_of(parts + count as u64);
         // Every place meets the rule where no squares are. The unit is found before this is asked, so that it depends on no branch.
@@ -53,17 +53,7 @@ const REACH: u64 = FINE * (Impact::TOP as u64);
 fn place_of(parts: u64) -> u32
     ensures { result ≡ min (parts / fine) top }
 {
-    let place = parts / FINE;
-    if place < Impact::TOP as u64 {
-        return place as u32;
-    }
-    Impact::TOP
-}
-
-fn greater(a: u32, b: u32) -> u32
-    ensures { result ≡ max a b }
-{
-    if a < b { b } else { a }
+    (parts / FINE).min(Impact::TOP as u64) as u32
 }
 
 // A step of Newton's iteration for the root of `most`, which is no more than the parts of the scale.
@@ -71,8 +61,7 @@ fn closer(most: u64, guess: u64) -> u64
     requires { (most ≤ reach * reach) × (0 < guess) × (guess ≤ reach) }
     ensures { result ≡ min ((guess + most / guess) / 2) reach }
 {
-    let mean = (guess + most / guess) / 2;
-    if mean < REACH { mean } else { REACH }
+    ((guess + most / guess) / 2).min(REACH)
 }
 
 // The impact of a count of 1 where the squares sum to n, in fine parts and cut. From this start four steps are nearly always enough; they stand before
@@ -153,11 +142,9 @@ pub fn squared(counts: [u8; paper::MOST_PAIRS], m: usize) -> u32
     ensures { result ≡ squares_of m counts }
 {
     let mut sum: u32 = 0;
-    let mut i: usize = 0;
-    while i < m {
-        let f = counts[i] as u32;
+    for count in &counts[..m] {
+        let f = u32::from(*count);
         sum += f * f;
-        i += 1;
     }
     sum
 }

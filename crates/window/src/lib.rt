@@ -246,7 +246,7 @@ impl Cursor {
         }
     }
 
-    // The clock moves on, and past messages go.
+    // The clock moves on, and past messages go: the cursor itself walks.
     pub fn advanced(mut self, state: &State, life: u32, clock: u32) -> Cursor
         ensures { Advanced (words state.now) life self.messages.first self.messages.count clock result.clock result.messages.first result.messages.count }
     {
@@ -336,7 +336,7 @@ fn walk_to(state: &State, messages: Span, serial: u32) -> Option<usize>
 // So many slots are compared with a serial before it is asked whether one has it: no comparison waits for another then.
 const AT_ONCE: usize = 16;
 
-// The same slot. Runs of slots without the serial are passed over whole.
+// The same slot. Runs of slots without the serial are passed over whole; they differ in length, so no iterator gives the places.
 pub fn slot_of(state: &State, messages: Span, serial: u32) -> Option<usize>
     ensures { Sought (words state.now) serial (ring messages.first messages.count) result }
 {

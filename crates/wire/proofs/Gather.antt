@@ -1,16 +1,15 @@
 -- A field gathered byte by byte: the turn and the end of the loop of `take_bits`. Assumes nothing.
-use mathlib.Core.Path.{◌≡◌, refl, ap, ap₂, ◌∙◌, subst}
+use mathlib.Core.Path.{◌≡◌, ap, ap₂, ◌∙◌, subst}
 use Prim.Native.Nat.{ℕ, zero, suc, ◌+◌, ◌-◌, ◌*◌, ◌/◌, ◌%◌, ◌^◌, ◌≤◌, ◌<◌}
 use native.Mathlib.Nat.{not-suc-le-zero, le_of_suc-le-suc}
 use native.Mathlib.Omega.{arith}
 use mathlib.Core.Bool.{Bool}
 use mathlib.Core.List.{List, [], ◌∷◌, ◌++◌}
-use lib.ListN.{length, take, drop, get_or, length-take, length-drop}
-use lib.Seq.{take_at, drop_at, length-take-le, take-add, drop-drop, get_or-take, get_or-drop}
+use lib.ListN.{length, take, drop, get_or, length-drop}
+use lib.Seq.{take_at, drop_at, length-take-le, take-add, drop-drop}
 use lib.Pow.{high, low}
-use Rattle.wire.specs.Bits.{bits, num, unpack, Bytes}
+use Rattle.wire.specs.Bits.{bits, num, unpack}
 use Rattle.wire.specs.Field.{field}
-use Rattle.wire.proofs.FieldLaws.{field_fits}
 use Rattle.wire.proofs.BitLaws.{length_bits, num_of, num_lt, num_append, length_unpack, one_shl}
 
 unpack_byte : (s : List ℕ) (q : ℕ) → q < length s → take 8 (drop (8 * q) (unpack s)) ≡ bits 8 (get_or s q 0)
@@ -52,39 +51,18 @@ field_part s a p w c h =
     ∙ low (num (take p l)) w (subst (λ (k : ℕ). num m < 2 ^ k) lm (num_lt m))
     ∙ ap (λ (x : List Bool). num (take w x)) (drop-drop p a (unpack s))
 
--- ---- the loop of `take_bits`, which gathers the n bytes from byte f on
+-- a turn of the loop that gathers bytes from byte f, with the numbers as code has them
+pub gather_turn : (s : List ℕ) (f i acc : ℕ) → acc ≡ field s (8 * f) (8 * (i - f)) → f ≤ i → i < length s → get_or s i 0 < 256
+    → acc * 256 + get_or s i 0 ≡ field s (8 * f) (8 * (i + 1 - f))
+gather_turn s f i acc e hf hi hb =
+    let n : 8 * (i + 1 - f) ≡ 8 * (i - f) + 8 = omega arith in
+    rw (n, field_byte s (8 * f) (8 * (i - f)) i (omega arith) hi hb, e)
 
--- i of them are gathered in acc
-pub record Gathered (s : List ℕ) (f n i acc : ℕ) : Type 0 where
-  pub bound : i ≤ n
-  pub is : acc ≡ field s (8 * f) (8 * i)
-
-pub gathered_none : {s : List ℕ} {f n : ℕ} → Gathered s f n 0 0
-unfolding field num
-gathered_none = record { bound = omega arith; is = refl }
-
-part_length : (s : List ℕ) (f n : ℕ) → f + n ≤ length s → length (take n (drop f s)) ≡ n
-part_length s f n h = length-take-le n (drop f s) (rw length-drop (omega arith))
-
-module _ {s : List ℕ} {f n i acc : ℕ} (g : Gathered s f n i acc) where
-  -- before one byte more they're at most four
-  pub gathered_lt : i < length (take n (drop f s)) → n ≤ 5 → acc < 2 ^ 32
-  gathered_lt hi hn = rw g.is (field_fits s (8 * f) (8 * i) 32 (omega (arith, length-take n (drop f s))))
-
-  pub gathered_more : {x : ℕ} → i < length (take n (drop f s)) → f + n ≤ length s → Bytes s → x ≡ get_or (take n (drop f s)) i 0
-      → Gathered s f n (i + 1) (acc * 256 + x)
-  gathered_more {x} hi hn hb ex =
-      let l = part_length s f n hn in
-      let m : 8 * (i + 1) ≡ 8 * i + 8 = omega arith in
-      let y : x ≡ get_or s (f + i) 0 = ex ∙ get_or-take n (drop f s) i 0 (omega arith) ∙ get_or-drop f s i 0 in
-      record { bound = omega arith; is = rw (m, field_byte s (8 * f) (8 * i) (f + i) (omega arith) (omega arith) (hb (f + i)), g.is, y) refl }
-
-  -- the field in them, once the c bits after it, and those before it, are cut off
-  pub gathered_all : {at : ℕ} (w c : ℕ) → length (take n (drop f s)) ≤ i → f + n ≤ length s → 8 * f ≤ at → at + w + c ≡ 8 * (f + n) → w < 64
-      → acc / 2 ^ c % (1 * 2 ^ w % 2 ^ 64) ≡ field s at w
-  gathered_all {at} w c hi hn hf hc hw =
-      let l = part_length s f n hn in
-      let p : ℕ = at - 8 * f in
-      let m : 8 * i ≡ p + w + c = omega (arith, g.bound) in
-      let a : 8 * f + p ≡ at = omega arith in
-      rw (one_shl w 64 hw, g.is, m, field_part s (8 * f) p w c (omega arith), a)
+-- the field in the n bytes gathered from byte f, once the c bits after it, and those before it, are cut off
+pub gather_done : (s : List ℕ) (at w f n c acc : ℕ) → acc ≡ field s (8 * f) (8 * n)
+    → f + n ≤ length s → 8 * f ≤ at → at + w + c ≡ 8 * (f + n) → w < 64 → acc / 2 ^ c % (1 * 2 ^ w % 2 ^ 64) ≡ field s at w
+gather_done s at w f n c acc e hn hf hc hw =
+    let p : ℕ = at - 8 * f in
+    let m : 8 * n ≡ p + w + c = omega arith in
+    let a : 8 * f + p ≡ at = omega arith in
+    rw (one_shl w 64 hw, e, m, field_part s (8 * f) p w c (omega arith), a)

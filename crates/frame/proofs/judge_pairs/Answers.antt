@@ -4,6 +4,7 @@ use native.Mathlib.Omega.{arith}
 use native.Mathlib.Nat.{sub-zero}
 use mathlib.Core.Bool.{Bool}
 use mathlib.Core.Path.{◌≡◌, sym, ap, ◌∙◌}
+use mathlib.Core.Logic.{inl, inr}
 use lib.ListN.{length, drop, get_or}
 use borrow.Author.Tests.{le-leb, lt-leb}
 use Rattle.wire.proofs.BitLaws.{one_shl}
@@ -15,13 +16,12 @@ use Rattle.frame.proofs.judge_pairs.Goals as goal
 
 pub returns-then-terms-pairs : goal.returns-then-terms-pairs
 unfolding pairs_verdict pairs_number
-returns-then-terms-pairs c = let a = c.args in rw (lt-leb a.pairs (length a.terms.now) (omega arith))
-
-pub returns-then-amounts-pairs : goal.returns-then-amounts-pairs
-unfolding pairs_verdict pairs_number
-returns-then-amounts-pairs c =
+returns-then-terms-pairs c =
     let a = c.args in
-    rw (le-leb a.pairs (length a.terms.now) (omega arith), lt-leb a.pairs (length a.amounts.now) (omega arith))
+    elim c.then-terms-pairs.either [
+      | inl few ↦ rw (lt-leb a.pairs (length a.terms.now) few)
+      | inr both ↦ rw (le-leb a.pairs (length a.terms.now) both.0, lt-leb a.pairs (length a.amounts.now) both.1)
+    ]
 
 pub loop-i-init : goal.loop-i-init
 unfolding pairs_verdict

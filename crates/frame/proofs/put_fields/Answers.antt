@@ -1,8 +1,5 @@
 -- `put_fields` meets its contract. Assumes nothing.
 use native.Mathlib.Omega.{arith}
-use mathlib.Core.Path.{◌≡◌}
-use lib.ListN.{length}
-use Rattle.std.proofs.lemmas.List.{take_all}
 use Rattle.wire.specs.Field.{total, spell}
 use Rattle.frame.proofs.LaidLaws.{laid_none}
 use Rattle.frame.proofs.HeadLaws.{field_room, total_more, fields_turn}
@@ -32,8 +29,3 @@ loop-i-preserved c =
       fields_turn a.out.now l.out _ a.widths.now a.values a.at l.i l.next (omega arith) (omega arith) (omega arith) l.invariant.0 l.invariant.1
           c.put_bits.ensures,
     )
-
-pub returns : goal.returns
-returns c =
-    let i : c.loop-i.i ≡ length c.args.widths.now = omega arith in
-    rw (take_all c.loop-i.i c.args.widths.now (omega arith), i) at c.loop-i.invariant.1

@@ -1,7 +1,6 @@
 -- `take_fields` meets its contract. Assumes nothing.
 use native.Mathlib.Omega.{arith}
 use mathlib.Core.Path.{refl}
-use Rattle.std.proofs.lemmas.List.{take_all}
 use Rattle.wire.specs.Field.{total, scan}
 use Rattle.frame.proofs.HeadLaws.{field_room, total_more, values_turn}
 use Rattle.frame.proofs.take_fields.Goals as goal
@@ -30,6 +29,3 @@ loop-i-preserved c =
       values_turn a.bytes.now a.at a.widths.now l.values l.i l.next c.take_bits.result (omega arith) (omega arith) l.invariant.0 l.invariant.1
           c.take_bits.ensures,
     )
-
-pub returns : goal.returns
-returns c = rw (take_all c.loop-i.i c.args.widths.now (omega arith)) at c.loop-i.invariant.1

@@ -43,17 +43,8 @@ loop-i-init c =
       left = rw (sub-zero a.m) (judged_all counted ps ∙ ap (λ (t : Bool). pairs_number t ps) (positive_all ps));
     }
 
-pub take_bits-both-requires : goal.take_bits-both-requires
-take_bits-both-requires c =
-    let a = c.args in
-    let room = pair_room a.at a.m c.loop-i.i (10 + a.width) c.loop-i.next (omega arith) c.loop-i.invariant.next in
-    omega arith
-
 pub overflow_cast-terms : goal.overflow_cast-terms
 overflow_cast-terms c = let small = (pair (goal.at.overflow_cast-terms c).After-low_bits-amount).term_small in omega arith
-
-pub overflow_cast-amounts : goal.overflow_cast-amounts
-overflow_cast-amounts c = let small = (pair (goal.at.overflow_cast-amounts c).After-low_bits-amount).amount_small in omega arith
 
 pub overflow_add-least : goal.overflow_add-least
 overflow_add-least c = let small = (pair (goal.at.overflow_add-least c).After-low_bits-amount).term_small in omega arith

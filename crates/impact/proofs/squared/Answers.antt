@@ -1,45 +1,38 @@
 -- `squared` meets its contract. Assumes nothing.
-use Prim.Native.Nat.{ℕ, ◌*◌, ◌-◌, ◌^◌, ◌≤◌}
+use Prim.Native.Nat.{ℕ, ◌+◌, ◌*◌, ◌≤◌, ◌<◌}
 use native.Mathlib.Omega.{arith}
-use mathlib.Core.Path.{◌≡◌}
-use lib.ListN.{get_or}
-use borrow.Author.Rules.{rules}
-use Rattle.paper.specs.Frame.{count_width}
+use mathlib.Core.Path.{◌≡◌, refl, ap, ◌∙◌}
+use lib.ListN.{get_or, length-take}
+use lib.Seq.{get_or-take}
 use Rattle.paper.proofs.ImpactLaws.{square_most}
 use Rattle.impact.specs.Cell.{squares_of}
 use Rattle.impact.proofs.CellLaws.{squares_more}
 use Rattle.impact.proofs.squared.Goals as goal
 
-abbrev most : ℕ
-most = 2 ^ count_width - 1
+-- the count at hand, its square and the sum with it
+taken : (c : goal.After-from-f) → let f = c.from-f.result in let i = c.loop-count.count-index in
+    (f * f ≤ 255 * 255) × (c.loop-count.sum + f * f ≡ squares_of (i + 1) c.args.counts) × (i < c.args.m)
+taken c =
+    let a = c.args in
+    let i = c.loop-count.count-index in
+    let n = length-take a.m a.counts in
+    let l : i < a.m = omega arith in
+    let e : c.from-f.result ≡ get_or a.counts i 0 = c.from-f.ensures ∙ get_or-take a.m a.counts i 0 l in
+    let m = squares_more i a.counts in
+    (rw e (square_most _ (c.requires.1 i l)), rw (e, m, c.loop-count.invariant.0) refl, l)
 
--- a count and its square
-count_most : (c : goal.In-loop-i) → let f = get_or c.args.counts c.loop-i.i 0 in (f ≤ most) × (f * f ≤ most * most)
-count_most c =
-    let h = c.requires.1 c.loop-i.i (omega arith) in
-    (omega arith, square_most _ h)
-
-pub loop-i-init : goal.loop-i-init
+pub loop-count-init : goal.loop-count-init
 unfolding squares_of
-loop-i-init c =
-    (omega arith, omega arith, omega arith)
-
-pub overflow_mul-sum : goal.overflow_mul-sum
-overflow_mul-sum c =
-    let h = (count_most c) in search rules
+loop-count-init c = (omega arith, omega arith)
 
 pub overflow_add-sum : goal.overflow_add-sum
-overflow_add-sum c =
-    let h = (count_most c) in search rules
+overflow_add-sum c = let h = taken c in omega arith
 
-pub loop-i-preserved : goal.loop-i-preserved
-loop-i-preserved c =
-    let h = (count_most c) in
-    let m = squares_more c.loop-i.i c.args.counts in
-    (omega arith, omega arith, omega arith)
+pub loop-count-preserved : goal.loop-count-preserved
+loop-count-preserved c = let h = taken c in (h.1, omega arith)
 
 pub returns : goal.returns
 returns c =
-    let e : c.loop-i.i ≡ c.args.m =
-    omega arith in
-    rw (← e) (omega arith)
+    let n = length-take c.args.m c.args.counts in
+    let e : c.loop-count.count-index ≡ c.args.m = omega arith in
+    c.loop-count.invariant.0 ∙ ap (λ (i : ℕ). squares_of i c.args.counts) e

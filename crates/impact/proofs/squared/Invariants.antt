@@ -8,8 +8,5 @@ use Rattle.impact.proofs.squared.Given as goal
 abbrev most : ℕ
 most = 2 ^ count_width - 1
 
-abbrev pub invariant-loop-i : goal.invariant-loop-i
-invariant-loop-i l = (l.i ≤ l.m) × (l.sum ≡ squares_of l.i l.counts) × (l.sum ≤ l.i * (most * most))
-
-abbrev pub decreases-loop-i : goal.decreases-loop-i
-decreases-loop-i l = l.m - l.i
+abbrev pub invariant-loop-count : goal.invariant-loop-count
+invariant-loop-count l = (l.sum ≡ squares_of l.count-index l.fn.counts) × (l.sum ≤ l.count-index * (most * most))

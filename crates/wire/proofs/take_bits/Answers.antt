@@ -1,20 +1,26 @@
 -- `take_bits` meets its contract. Assumes nothing.
+use Prim.Native.Nat.{◌^◌, ◌<◌}
 use native.Mathlib.Omega.{arith}
-use Rattle.wire.proofs.Gather.{gathered_none, gathered_lt, gathered_more, gathered_all}
+use native.Mathlib.Nat.{sub_self}
+use Rattle.wire.specs.Field.{field}
+use Rattle.wire.specs.Bits.{num}
+use Rattle.wire.proofs.FieldLaws.{field_fits}
+use Rattle.wire.proofs.Gather.{gather_turn, gather_done}
 use Rattle.wire.proofs.take_bits.Goals as goal
 
-pub loop-byte-init : goal.loop-byte-init
-loop-byte-init c = gathered_none
+pub loop-i-init : goal.loop-i-init
+unfolding field num
+loop-i-init c = rw sub_self
 
 pub overflow_mul-acc : goal.overflow_mul-acc
-overflow_mul-acc c = let h = gathered_lt c.loop-byte.invariant c.loop-byte-test.true (omega arith) in omega arith
+overflow_mul-acc c = let h : c.loop-i.acc < 2 ^ 40 = rw c.loop-i.invariant (field_fits _ _ _ 40 (omega arith)) in omega arith
 
 pub overflow_add-acc : goal.overflow_add-acc
-overflow_add-acc c = let h = gathered_lt c.loop-byte.invariant c.loop-byte-test.true (omega arith) in omega arith
+overflow_add-acc c = let h : c.loop-i.acc < 2 ^ 40 = rw c.loop-i.invariant (field_fits _ _ _ 40 (omega arith)) in omega arith
 
-pub loop-byte-preserved : goal.loop-byte-preserved
-loop-byte-preserved c =
-    gathered_more c.loop-byte.invariant c.loop-byte-test.true (omega arith) (λ j. (c.type_inv.s j).fits) c.from.ensures
+pub loop-i-preserved : goal.loop-i-preserved
+loop-i-preserved c =
+    rw c.from.ensures (gather_turn _ _ _ _ c.loop-i.invariant (omega arith) (omega arith) (omega (arith, c.type_inv.s c.loop-i.i)))
 
 pub returns : goal.returns
-returns c = gathered_all c.loop-byte.invariant c.args.width _ c.loop-byte-test.false (omega arith) (omega arith) (omega arith) (omega arith)
+returns c = gather_done _ _ c.args.width _ _ _ _ c.loop-i.invariant (omega arith) (omega arith) (omega arith) (omega arith)
