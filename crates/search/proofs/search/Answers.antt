@@ -33,14 +33,14 @@ look-requires-clause-rows_len c = (search rules, λ i. zero_at 2313 i)
 
 pub returns : goal.returns
 returns c =
-    let few : c.having-m.result ≤ slots = omega (arith, c.having-m.ensures.within, c.requires.1) in
+    let few : c.having-m.result ≤ slots = omega (arith, c.having-m.ensures.within, c.requires.0) in
     let sixteen : Sixteen c.ranked_rows-list.result = record {
-      most = omega (arith, c.ranked_rows-list.ensures.within, c.requires.2.k_most);
+      most = omega (arith, c.ranked_rows-list.ensures.within, c.requires.1.k_most);
       serials = search (rules, length_unmapped);
       keys = search (rules, length_unmapped);
     } in
     let picked = c.having-m.ensures in
-    let fit = c.requires.2 in
+    let fit = c.requires.1 in
     let looked = c.look.ensures.right in
     let ranked = c.ranked_rows-list.ensures in
     let size = picked_size picked few in
