@@ -10,7 +10,7 @@ use Rattle.paper.specs.Layout.{slots}
 use Rattle.window.specs.Slot.{Slot, slot, ring, window}
 use Rattle.window.specs.Table.{term_limit, greatest, RaisedBy, TableOf}
 use Rattle.window.proofs.TableLaws.{table_of}
-use Rattle.query.specs.declared.Move.{Move}
+use Rattle.query.specs.Move.{Move}
 use Rattle.query.specs.Post.{arriving, leaving}
 
 pub arriving_one : (k : ℕ) → k < slots → arriving k ≡ k ∷ []

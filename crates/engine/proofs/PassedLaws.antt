@@ -25,7 +25,7 @@ use Rattle.window.specs.Slot.{Slot, slot, ring}
 use Rattle.window.proofs.SlotLaws.{slot_kept, live_in, live_same}
 use Rattle.candidates.proofs.MatchLaws.{in_ring_lem}
 use Rattle.query.specs.Record.{HeldAt, HoldsAt, SameRecord}
-use Rattle.query.specs.declared.Move.{Move}
+use Rattle.query.specs.Move.{Move}
 use Rattle.query.specs.Post.{Change, Tables, Updated}
 use Rattle.query.proofs.RecordLaws.{map_agree, record_same, thresholds_same, held_at_same, holds_at_same, in_use_is}
 use Rattle.engine.specs.Inner.{reached_in, Passed}

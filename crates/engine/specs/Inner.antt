@@ -18,7 +18,7 @@ use Rattle.memory.specs.Keeps.{Keeps}
 use Rattle.window.specs.Slot.{ring, live}
 use Rattle.window.specs.Cursor.{PutCursor, Written, Cancelled}
 use Rattle.query.specs.Record.{thresholds, HeldAt, HoldsAt, SameRecord}
-use Rattle.query.specs.declared.Move.{Move}
+use Rattle.query.specs.Move.{Move}
 use Rattle.query.specs.Post.{Change, Tables}
 use Rattle.engine.specs.declared.Reply.{Reply}
 use Rattle.engine.specs.Told.{number_told}

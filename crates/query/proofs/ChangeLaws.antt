@@ -40,7 +40,7 @@ use Rattle.candidates.specs.declared.Query.{Query}
 use Rattle.candidates.specs.Flags.{flag_of, in_ring}
 use Rattle.candidates.specs.Match.{exceeds_cells}
 use Rattle.candidates.proofs.MatchLaws.{slot_in, select_agree}
-use Rattle.query.specs.declared.Move.{Move}
+use Rattle.query.specs.Move.{Move}
 use Rattle.query.specs.declared.Touch.{Touch}
 use Rattle.query.specs.Record.{thresholds, flags, keys, candidates, held_of, Held, Holds}
 use Rattle.query.specs.Post.{Is, LoadedQuery, LoadedThresholds, LoadedList, Ready, Exact, arriving, leaving_serials}

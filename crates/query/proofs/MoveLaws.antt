@@ -31,7 +31,7 @@ use Rattle.candidates.specs.Match.{exceeds_cells, reached_slots}
 use Rattle.candidates.specs.Post.{WithFlag, Without}
 use Rattle.candidates.specs.Flags.{flag_of, in_ring}
 use Rattle.candidates.proofs.MatchLaws.{slot_in, in_ring_lem, ring_in, exceeds_live, reached_greatest, score_greatest, score_alone}
-use Rattle.query.specs.declared.Move.{Move}
+use Rattle.query.specs.Move.{Move}
 use Rattle.query.specs.declared.Touch.{Touch}
 use Rattle.query.specs.Record.{size_of, thresholds, flags, list, held_of, Held, Holds}
 use Rattle.query.specs.Touch.{found_above, found_sum, Touched}

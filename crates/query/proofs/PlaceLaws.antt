@@ -14,7 +14,7 @@ use Rattle.rank.specs.Listing.{Keyed, keyed_with, keyed_of, line_with, shown, la
 use Rattle.rank.proofs.LineLaws.{length_listed_lesser, listed_at_lem, last_listed}
 use Rattle.window.specs.Slot.{slot, next, ring}
 use Rattle.window.proofs.RingLaws.{ring_step, ring_none}
-use Rattle.query.specs.declared.Move.{Move}
+use Rattle.query.specs.Move.{Move}
 use Rattle.query.specs.Record.{keys, listed_at}
 use Rattle.query.specs.Post.{Least, WithoutGone}
 

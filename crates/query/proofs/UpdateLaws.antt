@@ -10,7 +10,7 @@ use Rattle.paper.specs.Rank.{key_factor}
 use Rattle.paper.specs.Layout.{record_at, record_words, listed_in}
 use Rattle.paper.proofs.Tests.{or_false}
 use Rattle.memory.proofs.KeepsLaws.{keeps_refl, keeps_wider}
-use Rattle.query.specs.declared.Move.{Move}
+use Rattle.query.specs.Move.{Move}
 use Rattle.query.specs.declared.Touch.{Touch}
 use Rattle.query.specs.Touch.{Touched}
 use Rattle.query.specs.Post.{MovedFlags, Least, KeptList, Changed, Updated}

@@ -353,10 +353,10 @@ fn without_gone(state: &State, moved: Move, went: u32, least: u32, list: Ranked)
     for j in moved.gone {
         rest = rank::removed(rest, window::serial_in(state, j));
     }
-    if let Some(cancelled) = moved.cancelled {
-        return rank::removed(rest, cancelled.serial);
+    match moved.cancelled {
+        Some(cancelled) => rank::removed(rest, cancelled.serial),
+        None => rest,
     }
-    rest
 }
 
 // The list with the arriving message, where there is one and it changes it.

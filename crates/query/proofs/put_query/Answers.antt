@@ -6,5 +6,5 @@ use Rattle.query.proofs.put_query.Goals as goal
 pub returns : goal.returns
 returns c =
     let a = c.args in
-    query_put _ _ a.q a.k a.n (omega arith) (omega arith) (omega arith) (omega arith) c.put.ensures c.put-2.ensures
-    a.terms a.weights (omega arith) (omega arith) c.packed-pairs.ensures c.store.ensures
+    query_put _ _ a.q a.query.k a.query.n (omega arith) (omega arith) (omega arith) (omega arith) c.put.ensures c.put-2.ensures
+    a.query.terms a.query.weights (omega arith) (omega arith) c.packed.ensures c.store.ensures

@@ -14,7 +14,7 @@ returns c =
     record {
       keeps = c.settled-done.ensures.keeps;
       right = λ ms query over terms says is.
-          c.settled-done.ensures.right e a.first a.count all_flags ms query (omega arith)
-          (having_all a.first a.count (omega arith) (having_shares (c.having-m.ensures.right is.rising is.known))) over terms says is
+          c.settled-done.ensures.right e a.messages.first a.messages.count all_flags ms query (omega arith)
+          (having_all a.messages.first a.messages.count (omega arith) (having_shares (c.having-m.ensures.right is.rising is.known))) over terms says is
           (λ i h. zero_at 8 i) (shown_all (omega arith) over) (λ j h i x. all_flagged j h);
     }

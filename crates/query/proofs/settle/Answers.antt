@@ -12,7 +12,7 @@ pub returns-then-not-settled : goal.returns-then-not-settled
 returns-then-not-settled c =
     let a = c.args in
     let same = c.settled.ensures.refused c.if-not-settled.true in
-    let refilled = subst (λ (v : List ℕ). Refilled v a.q a.first a.count a.query (words c.refill.new.state)) same c.refill.ensures in
+    let refilled = subst (λ (v : List ℕ). Refilled v a.q a.messages.first a.messages.count a.query (words c.refill.new.state)) same c.refill.ensures in
     record { keeps = refilled.keeps; right = λ ms query over terms says is unused exact. refilled.right ms query over terms says is }
 
 pub returns-else-not-settled : goal.returns-else-not-settled
@@ -21,6 +21,6 @@ returns-else-not-settled c =
     record {
       keeps = c.settled.ensures.keeps;
       right = λ ms query over terms says is unused exact.
-          c.settled.ensures.right c.if-not-settled.false a.first a.count a.flags ms query (omega arith)
+          c.settled.ensures.right c.if-not-settled.false a.messages.first a.messages.count a.flags ms query (omega arith)
           (having_picked c.flagged_slots-m.ensures.right) over terms says is unused (shown_exact (omega arith) over exact) (λ j h i e. exact j h i ∙ e);
     }

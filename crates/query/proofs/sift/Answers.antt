@@ -15,6 +15,6 @@ returns c =
     record {
       keeps = c.finish.ensures.keeps;
       right = λ hs ms query long lifted ready.
-          c.finish.ensures.right a.first a.count a.flags hs ms query (omega arith)
+          c.finish.ensures.right a.messages.first a.messages.count a.flags hs ms query (omega arith)
           (having_picked c.flagged_slots-m.ensures.right) looked.right long lifted ready;
     }

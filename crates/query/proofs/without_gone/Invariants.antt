@@ -5,4 +5,4 @@ use Rattle.query.proofs.without_gone.Given as goal
 
 -- those that the iterator has yet to give are left
 abbrev pub invariant-loop-j : goal.invariant-loop-j
-invariant-loop-j l = Leaving (words l.state) l.moved.gone l.moved.departed l.initial.rest l.j-iterator.at l.j-iterator.left l.rest
+invariant-loop-j l = Leaving (words l.state) l.fn.moved.gone.first l.fn.moved.gone.count l.initial.rest l.j-iterator.at l.j-iterator.left l.rest
