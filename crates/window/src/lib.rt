@@ -2,6 +2,8 @@
 #![tactic(auto)]
 
 ghost use Rattle.std.specs.Prelude.{◌≡◌, ℕ, ◌+◌, ◌*◌, ◌-◌, ◌%◌, ◌^◌, ◌<◌, ◌≤◌, min, max, false, ◌||◌, length, get_or};
+ghost use Rattle.std.specs.Prelude.{MatchOption};
+ghost use Rattle.std.specs.Iterator.{at_most};
 ghost use Rattle.paper.specs.Frame.{level, urgency_of, term_width, count_width, most_pairs, most_terms};
 ghost use Rattle.paper.specs.Frame.Urgency.{vital};
 ghost use Rattle.paper.specs.Window.{past};
@@ -32,6 +34,43 @@ pub fn following(j: usize) -> usize
 {
     let next = j + 1;
     if next < layout::SLOTS { next } else { 0 }
+}
+
+// Slots of the ring, one after the other: `left` of them, from slot `at` on.
+#[derive(Drop)]
+pub struct Slots {
+    pub at: usize,
+    pub left: usize,
+    pub ghost in_ring: { at < slots },
+}
+
+impl Iterator for Slots {
+    type Item = usize;
+
+    ghost next_gives = { λ s r t. MatchOption r (s.left ≡ 0) (λ j. (0 < s.left) × (j ≡ s.at) × (t.at ≡ next j) × (t.left ≡ s.left - 1)) };
+
+    ghost remaining = { λ s. at_most s.left };
+
+    fn next(&mut self) -> Option<usize> {
+        if self.left == 0 {
+            return None;
+        }
+        let j = self.at;
+        self.at = following(j);
+        self.left -= 1;
+        Some(j)
+    }
+}
+
+// The `count` slots from slot `first` on.
+pub fn slots_from(first: usize, count: usize) -> Slots
+    requires { first < slots }
+    ensures { (result.at ≡ first) × (result.left ≡ count) }
+{
+    Slots {
+        at: first,
+        left: count,
+    }
 }
 
 // The time of the message in slot j.
@@ -352,14 +391,10 @@ pub fn in_force(state: &State, first: usize, count: usize) -> usize
     ensures { (result ≡ length (live (words state.now) (ring first count))) × (result ≤ count) }
 {
     let mut found: usize = 0;
-    let mut j = first;
-    let mut left = count;
-    while 0 < left {
+    for j in slots_from(first, count) {
         if 0 < size_in(state, j) {
             found += 1;
         }
-        j = following(j);
-        left -= 1;
     }
     found
 }

@@ -1,19 +1,20 @@
 -- `in_force` meets its contract. Assumes nothing.
 use native.Mathlib.Omega.{arith}
 use Rattle.window.proofs.WalkLaws.{counting_start, counting_hit, counting_miss, counting_end}
-use Rattle.window.proofs.in_force.Goals.{then-size_in-gt0, else-size_in-gt0}
 use Rattle.window.proofs.in_force.Goals as goal
 
-pub loop-left-init : goal.loop-left-init
-loop-left-init c = counting_start (omega arith)
+pub loop-j-init : goal.loop-j-init
+loop-j-init c = let s = c.slots_from-j-items.ensures in rw (c.into_iter-j-iterator.ensures.into_iter_gives, s.0, s.1) (counting_start (omega arith))
 
-pub loop-left-preserved : goal.loop-left-preserved
-loop-left-preserved c =
-    let l = c.loop-left in
-    elim c.if-size_in-gt0.branch [
-      | then-size_in-gt0 w ↦ rw w.found-is (counting_hit l.invariant (omega arith) c.size_in.ensures c.following-j.ensures (omega arith))
-      | else-size_in-gt0 w ↦ rw w.found-is (counting_miss l.invariant (omega arith) c.size_in.ensures c.following-j.ensures (omega arith))
-    ]
+pub loop-j-preserved-then-size_in-gt0 : goal.loop-j-preserved-then-size_in-gt0
+loop-j-preserved-then-size_in-gt0 c =
+    let t = c.in-Some.ensures.steps in
+    rw t.3 (counting_hit c.loop-j.invariant t.0 (rw (← t.1) c.size_in.ensures) (rw (← t.1) t.2) c.if-size_in-gt0.true)
+
+pub loop-j-preserved : goal.loop-j-preserved
+loop-j-preserved c =
+    let t = c.in-Some.ensures.steps in
+    rw t.3 (counting_miss c.loop-j.invariant t.0 (rw (← t.1) c.size_in.ensures) (rw (← t.1) t.2) c.if-size_in-gt0.false)
 
 pub returns : goal.returns
-returns c = counting_end c.loop-left.invariant (omega arith)
+returns c = counting_end c.loop-j.invariant (omega (arith, c.in-None.ensures.steps))

@@ -3,8 +3,5 @@ use Rattle.memory.specs.Words.{words}
 use Rattle.window.proofs.WalkLaws.{Counting}
 use Rattle.window.proofs.in_force.Given as goal
 
-abbrev pub invariant-loop-left : goal.invariant-loop-left
-invariant-loop-left l = Counting (words l.state) l.first l.count l.found l.j l.left
-
-abbrev pub decreases-loop-left : goal.decreases-loop-left
-decreases-loop-left l = l.left
+abbrev pub invariant-loop-j : goal.invariant-loop-j
+invariant-loop-j l = Counting (words l.state) l.first l.count l.found l.j-iterator.at l.j-iterator.left
