@@ -31,17 +31,18 @@ use Rattle.window.proofs.RingLaws.{ring_length, ring_below}
 
 -- ---- the cells of a slot
 
-module _ (s : List ℕ) (j : ℕ) (long : length s ≡ state_length) (below : j < slots) where
-  pub size_most : size_at (words s) j ≤ most_pairs
-  size_most = min-le_right (get_or (words s) (cell_count_at j) 0 % cell_limit) most_pairs
-
-  pub slot_size : length (slot (words s) j).cells ≡ size_at (words s) j
+module _ (w : List ℕ) (j : ℕ) where
+  pub slot_size : length w ≡ state_words → j < slots → size_at w j ≡ length (slot w j).cells
   unfolding slot
-  slot_size = let m = size_most in simp (length-take, length-drop, words_length) (omega arith)
+  slot_size long below = simp (length-take, length-drop) (omega (arith, min-le_right (get_or w (cell_count_at j) 0 % cell_limit) most_pairs))
 
-  pub slot_cell : (i : ℕ) → i < size_at (words s) j → get_or (slot (words s) j).cells i 0 ≡ get_or (words s) (cells_at j + i) 0
+  pub slot_few : length (slot w j).cells ≤ most_pairs
   unfolding slot
-  slot_cell i h = rw (get_or-take, get_or-drop)
+  slot_few = simp length-take (omega arith)
+
+  pub slot_cell : (i : ℕ) → i < length (slot w j).cells → get_or w (cells_at j + i) 0 ≡ get_or (slot w j).cells i 0
+  unfolding slot
+  slot_cell i h = let below : i < size_at w j = omega (arith, simp length-take at h) in rw (get_or-take, get_or-drop)
 
 -- ---- slots that aren't live
 

@@ -54,28 +54,28 @@ module _ (s : ℕ) where
     serial_none o n z = rw z
 
     -- slot j, after those from slot o up to it
-    pub serial_more : (o j : ℕ) → o ≤ j → j < slots → {x : ℕ} → x ≡ (slot w j).serial → {b d : Bool} → b ≡ holds_serial s (window w o (j - o))
-        → d ≡ (b || eqb x s) → d ≡ holds_serial s (window w o (j + 1 - o))
+    pub serial_more : (o j : ℕ) → o ≤ j → j < slots → {x : ℕ} → x ≡ (slot w j).serial → {b : Bool} → b ≡ holds_serial s (window w o (j - o))
+        → (b || eqb x s) ≡ holds_serial s (window w o (j + 1 - o))
     unfolding holds_serial
-    serial_more o j h k read e q =
+    serial_more o j h k read e =
         let n : j + 1 - o ≡ suc (j - o) = omega arith in
         let p : (o + (j - o)) % slots ≡ j = omega arith in
-        rw (q, e, read, n, ring_last o (j - o) (omega arith), p, map-append (slot w) (ring o (j - o)) (j ∷ []), holds_append, or-false)
+        rw (e, read, n, ring_last o (j - o) (omega arith), p, map-append (slot w) (ring o (j - o)) (j ∷ []), holds_append, or-false)
 
     -- a window that goes around, in two parts
-    pub serial_parts : (o n m : ℕ) → o < slots → slots ≤ o + n → m ≡ o + n - slots → {a b d : Bool} → a ≡ holds_serial s (window w o (slots - o))
-        → b ≡ holds_serial s (window w 0 m) → d ≡ (a || b) → d ≡ holds_serial s (window w o n)
-    serial_parts o n m h k z e f q = rw (q, e, f, z, ring_cut o n h k, map-append (slot w) (ring o (slots - o)) (ring 0 (o + n - slots)), holds_append)
+    pub serial_parts : (o n m : ℕ) → o < slots → slots ≤ o + n → m ≡ o + n - slots → {a b : Bool} → a ≡ holds_serial s (window w o (slots - o))
+        → b ≡ holds_serial s (window w 0 m) → (a || b) ≡ holds_serial s (window w o n)
+    serial_parts o n m h k z e f = rw (e, f, z, ring_cut o n h k, map-append (slot w) (ring o (slots - o)) (ring 0 (o + n - slots)), holds_append)
 
 -- ---- the first slot that has it
 
 module _ (w : List ℕ) (s o n : ℕ) where
-  pub seek_none : n ≤ 0 → slots ≡ seek w s (ring o n)
+  pub seek_none : n ≤ 0 → seek w s (ring o n) ≡ slots
   unfolding seek
   seek_none h = rw (ring_none o n h)
 
   module _ (some : 0 < n) {x : ℕ} (read : x ≡ (slot w o).serial) where
-    pub seek_here : x ≡ s → o ≡ seek w s (ring o n)
+    pub seek_here : x ≡ s → seek w s (ring o n) ≡ o
     unfolding seek
     seek_here e = rw (ring_step o n some, eq-eqb (slot w o).serial s (sym read ∙ e))
 

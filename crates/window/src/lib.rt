@@ -47,7 +47,7 @@ pub struct Slots {
 impl Iterator for Slots {
     type Item = usize;
 
-    ghost next_gives = { λ s r t. MatchOption r (s.left ≡ 0) (λ j. (0 < s.left) × (j ≡ s.at) × (t.at ≡ next j) × (t.left ≡ s.left - 1)) };
+    ghost next_gives = { λ s r t. MatchOption r (s.left ≡ 0) (λ j. (0 < s.left) × (s.at ≡ j) × (t.at ≡ next j) × (t.left ≡ s.left - 1)) };
 
     ghost remaining = { λ s. at_most s.left };
 
@@ -101,11 +101,20 @@ pub fn urgency_in(state: &State, j: usize) -> u32
 // How many cells the message in slot j has, at most as many as a slot has room for whatever memory holds.
 fn size_in(state: &State, j: usize) -> usize
     requires { j < slots }
-    ensures { result ≡ size_at (words state.now) j }
+    ensures size { result ≡ size_at (words state.now) j }
+    ensures cells { result ≡ length (slot (words state.now) j).cells }
+    ensures few { result ≤ most_pairs }
 {
     let word = memory::get(state, layout::CELL_COUNTS + j);
-    let size = (word % layout::CELL_LIMIT) as usize;
-    if size < MOST_PAIRS { size } else { MOST_PAIRS }
+    ((word % layout::CELL_LIMIT) as usize).min(MOST_PAIRS)
+}
+
+// Cell i of the message in slot j.
+fn cell_at(state: &State, j: usize, i: usize) -> u32
+    requires { (j < slots) × (i < length (slot (words state.now) j).cells) }
+    ensures { result ≡ get_or (slot (words state.now) j).cells i 0 }
+{
+    memory::get(state, layout::CELLS + MOST_PAIRS * j + i)
 }
 
 // The first cell of the message in slot j that has the term, 0 where none has it.
@@ -113,15 +122,11 @@ fn cell_in(state: &State, j: usize, term: u32) -> u32
     requires { j < slots }
     ensures { result ≡ cell_with term (slot (words state.now) j).cells }
 {
-    let cells = layout::CELLS + MOST_PAIRS * j;
-    let size = size_in(state, j);
-    let mut i: usize = 0;
-    while i < size {
-        let cell = memory::get(state, cells + i);
+    for i in 0..size_in(state, j) {
+        let cell = cell_at(state, j, i);
         if cell / impact::TERM_FACTOR == term {
             return cell;
         }
-        i += 1;
     }
     0
 }
@@ -147,22 +152,12 @@ pub fn squares_in(state: &State, j: usize) -> u32
     requires { j < slots }
     ensures { (result ≡ cell_squares (slot (words state.now) j).cells) × (result ≤ most_squares) }
 {
-    let cells = layout::CELLS + MOST_PAIRS * j;
-    let size = size_in(state, j);
     let mut sum: u32 = 0;
-    let mut i: usize = 0;
-    while i < size {
-        let count = impact::count_of(memory::get(state, cells + i));
+    for i in 0..size_in(state, j) {
+        let count = impact::count_of(cell_at(state, j, i));
         sum += count * count;
-        i += 1;
     }
     sum
-}
-
-pub fn greater(a: u16, b: u16) -> u16
-    ensures { result ≡ max a b }
-{
-    if a < b { b } else { a }
 }
 
 // The table's entry of each term of the message in slot j becomes at least the message's impact in it.
@@ -170,14 +165,10 @@ fn raise_impacts(state: &State, j: usize, table: &mut [u16])
     requires { (j < slots) × (length table.old ≡ term_limit) }
     ensures { (length table.new ≡ term_limit) × Raised (slot (words state.now) j).cells table.old table.new }
 {
-    let at = layout::CELLS + MOST_PAIRS * j;
-    let size = size_in(state, j);
-    let mut i: usize = 0;
-    while i < size {
-        let cell = memory::get(state, at + i);
+    for i in 0..size_in(state, j) {
+        let cell = cell_at(state, j, i);
         let term = (cell / impact::TERM_FACTOR) as usize;
-        table[term] = greater(table[term], (cell % impact::COUNT_FACTOR) as u16);
-        i += 1;
+        table[term] = table[term].max((cell % impact::COUNT_FACTOR) as u16);
     }
 }
 
@@ -186,26 +177,9 @@ pub fn raise_all(state: &State, first: usize, count: usize, table: &mut [u16])
     requires { (first < slots) × (length table.old ≡ term_limit) }
     ensures { (length table.new ≡ term_limit) × RaisedBy (window (words state.now) first count) table.old table.new }
 {
-    let mut j = first;
-    let mut unseen = count;
-    while 0 < unseen {
+    for j in slots_from(first, count) {
         raise_impacts(state, j, table);
-        j = following(j);
-        unseen -= 1;
     }
-}
-
-// Without a branch where it is put in place.
-pub fn either(a: bool, b: bool) -> bool
-    ensures { result ≡ (a || b) }
-{
-    if a { true } else { b }
-}
-
-fn wide(x: u8) -> u32
-    ensures { (result ≡ x) × (result < 256) }
-{
-    x as u32
 }
 
 // Whether a term of the message in slot j has a place other than 0, by the sum of the places: no cell is tested.
@@ -213,15 +187,11 @@ pub fn has_place(state: &State, j: usize, places: &[u8]) -> bool
     requires { (j < slots) × (length places.now ≡ term_limit) }
     ensures { result ≡ touches places.now (slot (words state.now) j).cells }
 {
-    let cells = layout::CELLS + MOST_PAIRS * j;
-    let size = size_in(state, j);
     let mut sum: u32 = 0;
-    let mut i: usize = 0;
-    while i < size {
-        let cell = memory::get(state, cells + i);
+    for i in 0..size_in(state, j) {
+        let cell = cell_at(state, j, i);
         let term = (cell / impact::TERM_FACTOR) as usize;
-        sum += wide(places[term]);
-        i += 1;
+        sum += u32::from(places[term]);
     }
     0 < sum
 }
@@ -231,14 +201,11 @@ pub fn has_place(state: &State, j: usize, places: &[u8]) -> bool
 // cell of a term counts whatever memory holds.
 pub fn look_at(state: &State, j: usize, places: &[u8], rows: &mut [u16], at: usize)
     requires in_bounds { (j < slots) × (length places.now ≡ term_limit) × (at + row_width ≤ length rows.old) }
-    requires by_index { (t : ℕ) → get_or places.now t 0 ≤ most_terms }
+    requires in_row { (t : ℕ) → get_or places.now t 0 ≤ most_terms }
     ensures { LookedAt (slot (words state.now) j).cells places.now at rows.old rows.new }
 {
-    let base = layout::CELLS + MOST_PAIRS * j;
-    let mut i = size_in(state, j);
-    while 0 < i {
-        i -= 1;
-        let cell = memory::get(state, base + i);
+    for i in (0..size_in(state, j)).rev() {
+        let cell = cell_at(state, j, i);
         let term = (cell / impact::TERM_FACTOR) as usize;
         let place = places[term] as usize;
         rows[at + place] = (cell % impact::COUNT_FACTOR) as u16;
@@ -305,7 +272,7 @@ impl Cursor {
 
 // The header says this cursor.
 pub fn put_cursor(state: &mut State, clock: u32, oldest: usize, count: usize)
-    requires oldest_lt_slots { (oldest < slots) × (count < slots) }
+    requires in_ring { (oldest < slots) × (count < slots) }
     ensures { PutCursor clock oldest count (words state.old) (words state.new) }
 {
     memory::put(state, layout::CLOCK, clock);
@@ -313,16 +280,15 @@ pub fn put_cursor(state: &mut State, clock: u32, oldest: usize, count: usize)
     memory::put(state, layout::COUNT, count as u32);
 }
 
-// Whether one of the messages in the slots from `first` up to `end` has the serial. All are looked at: no slot's test waits for another's.
+// Whether one of the messages in the slots from `first` up to `end` has the serial. All are looked at, without a branch: no slot's test waits for
+// another's.
 fn serial_among(state: &State, first: usize, end: usize, serial: u32) -> bool
     requires { end ≤ slots }
     ensures { result ≡ holds_serial serial (window (words state.now) first (end - first)) }
 {
     let mut found = false;
-    let mut j = first;
-    while j < end {
-        found = either(found, serial_in(state, j) == serial);
-        j += 1;
+    for j in first..end {
+        found |= serial_in(state, j) == serial;
     }
     found
 }
@@ -336,8 +302,7 @@ pub fn has_serial(state: &State, first: usize, count: usize, serial: u32) -> boo
     if end <= layout::SLOTS {
         return serial_among(state, first, end, serial);
     }
-    let late = serial_among(state, first, layout::SLOTS, serial);
-    either(late, serial_among(state, 0, end - layout::SLOTS, serial))
+    serial_among(state, first, layout::SLOTS, serial) | serial_among(state, 0, end - layout::SLOTS, serial)
 }
 
 // The slot of the first of the `count` messages from slot `first` on that has the serial, slot by slot; none where none has.
@@ -345,26 +310,16 @@ fn walk_to(state: &State, first: usize, count: usize, serial: u32) -> Option<usi
     requires { first < slots }
     ensures { Sought (words state.now) serial (ring first count) result }
 {
-    let mut j = first;
-    let mut left = count;
-    while 0 < left {
+    for j in slots_from(first, count) {
         if serial_in(state, j) == serial {
             return Some(j);
         }
-        j = following(j);
-        left -= 1;
     }
     None
 }
 
 // So many slots are compared with a serial before it is asked whether one has it: no comparison waits for another then.
 const AT_ONCE: usize = 16;
-
-pub fn lesser(a: usize, b: usize) -> usize
-    ensures { result ≡ min a b }
-{
-    if a < b { a } else { b }
-}
 
 // The same slot. Runs of slots without the serial are passed over whole.
 pub fn slot_of(state: &State, first: usize, count: usize, serial: u32) -> Option<usize>
@@ -375,7 +330,7 @@ pub fn slot_of(state: &State, first: usize, count: usize, serial: u32) -> Option
     let mut left = count;
     while 0 < left {
         // no more than are left of the window, and of the ring up to its end
-        let run = lesser(lesser(AT_ONCE, left), layout::SLOTS - j);
+        let run = AT_ONCE.min(left).min(layout::SLOTS - j);
         if serial_among(state, j, j + run, serial) {
             return walk_to(state, j, left, serial);
         }
@@ -425,18 +380,15 @@ fn put_cells(
     counts: [u8; MOST_PAIRS],
 )
     requires in_bounds { (at + m ≤ state_words) × (m ≤ most_pairs) }
-    requires by_index { (i : ℕ) → i < m → (get_or terms i 0 < 2 ^ term_width) × (get_or counts i 0 < 2 ^ count_width) }
+    requires fit { (i : ℕ) → i < m → (get_or terms i 0 < 2 ^ term_width) × (get_or counts i 0 < 2 ^ count_width) }
     ensures { Stored at m (cells_of (side_by_side m terms counts)) (words state.old) (words state.new) }
 {
     let squares = impact::squared(counts, m);
-    let mut i: usize = 0;
-    while i < m {
-        let term = terms[i] as u32;
-        let count = counts[i] as u32;
+    for i in 0..m {
+        let count = u32::from(counts[i]);
         let impact = Impact::of(count, squares);
-        let cell = impact::cell(term, count, impact.value);
+        let cell = impact::cell(u32::from(terms[i]), count, impact.value);
         memory::put(state, at + i, cell);
-        i += 1;
     }
 }
 
@@ -452,8 +404,18 @@ pub fn put_message(
     counts: [u8; MOST_PAIRS],
 )
     requires in_bounds { (j < slots) × (urgency ≤ level vital) × (m ≤ most_pairs) }
-    requires by_index { (i : ℕ) → i < m → (get_or terms i 0 < 2 ^ term_width) × (get_or counts i 0 < 2 ^ count_width) }
-    ensures { Written j (record { time = time; serial = serial; urgency = urgency_of urgency; pairs = side_by_side m terms counts; cancelled = false }) (words state.old) (words state.new) }
+    requires fit { (i : ℕ) → i < m → (get_or terms i 0 < 2 ^ term_width) × (get_or counts i 0 < 2 ^ count_width) }
+    ensures {
+        Written j
+            (record {
+              time = time;
+              serial = serial;
+              urgency = urgency_of urgency;
+              pairs = side_by_side m terms counts;
+              cancelled = false;
+            })
+            (words state.old) (words state.new)
+    }
 {
     memory::put(state, layout::SLOT_TIMES + j, time);
     memory::put(state, layout::SLOT_SERIALS + j, serial);

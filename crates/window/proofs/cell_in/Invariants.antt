@@ -1,5 +1,4 @@
 -- `cell_in`'s loops. Assumes nothing.
-use Prim.Native.Nat.{◌-◌, ◌≤◌}
 use mathlib.Core.Path.{◌≡◌}
 use lib.ListN.{drop}
 use Rattle.memory.specs.Words.{words}
@@ -9,7 +8,4 @@ use Rattle.window.proofs.cell_in.Given as goal
 
 -- the term is to be looked up among the cells from the i-th on
 abbrev pub invariant-loop-i : goal.invariant-loop-i
-invariant-loop-i l = (l.i ≤ l.size) × (cell_with l.term (drop l.i (slot (words l.state) l.j).cells) ≡ cell_with l.term (slot (words l.state) l.j).cells)
-
-abbrev pub decreases-loop-i : goal.decreases-loop-i
-decreases-loop-i l = l.size - l.i
+invariant-loop-i l = cell_with l.term (drop l.i (slot (words l.state) l.j).cells) ≡ cell_with l.term (slot (words l.state) l.j).cells

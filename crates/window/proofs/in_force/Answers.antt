@@ -9,12 +9,12 @@ loop-j-init c = let s = c.slots_from-j-items.ensures in rw (c.into_iter-j-iterat
 pub loop-j-preserved-then-size_in-gt0 : goal.loop-j-preserved-then-size_in-gt0
 loop-j-preserved-then-size_in-gt0 c =
     let t = c.in-Some.ensures.steps in
-    rw t.3 (counting_hit c.loop-j.invariant t.0 (rw (← t.1) c.size_in.ensures) (rw (← t.1) t.2) c.if-size_in-gt0.true)
+    rw t.3 (counting_hit (rw t.1 at c.loop-j.invariant) t.0 c.size_in.ensures.size t.2 c.if-size_in-gt0.true)
 
 pub loop-j-preserved : goal.loop-j-preserved
 loop-j-preserved c =
     let t = c.in-Some.ensures.steps in
-    rw t.3 (counting_miss c.loop-j.invariant t.0 (rw (← t.1) c.size_in.ensures) (rw (← t.1) t.2) c.if-size_in-gt0.false)
+    rw t.3 (counting_miss (rw t.1 at c.loop-j.invariant) t.0 c.size_in.ensures.size t.2 c.if-size_in-gt0.false)
 
 pub returns : goal.returns
 returns c = counting_end c.loop-j.invariant (omega (arith, c.in-None.ensures.steps))

@@ -1,14 +1,10 @@
 -- `look_at`'s loops. Assumes nothing.
-use Prim.Native.Nat.{◌≤◌}
 use lib.ListN.{drop}
 use Rattle.memory.specs.Words.{words}
-use Rattle.window.specs.Slot.{slot, size_at}
+use Rattle.window.specs.Slot.{slot}
 use Rattle.window.specs.Rows.{LookedAt}
 use Rattle.window.proofs.look_at.Given as goal
 
 -- the cells from the i-th on are in the row
 abbrev pub invariant-loop-i : goal.invariant-loop-i
-invariant-loop-i l = (l.i ≤ size_at (words l.state) l.j) × LookedAt (drop l.i (slot (words l.state) l.j).cells) l.places l.at l.initial.rows l.rows
-
-abbrev pub decreases-loop-i : goal.decreases-loop-i
-decreases-loop-i l = l.i
+invariant-loop-i l = LookedAt (drop l.i (slot (words l.state) l.j).cells) l.places l.at l.initial.rows l.rows

@@ -1,6 +1,6 @@
 -- `put_cells` meets its contract. Assumes nothing.
 use native.Mathlib.Omega.{arith}
-use mathlib.Core.Path.{◌≡◌, sym, ap, ◌∙◌}
+use mathlib.Core.Path.{◌≡◌, refl, sym, ◌∙◌}
 use lib.ListN.{get_or}
 use borrow.Author.Rules.{rules}
 use Rattle.paper.specs.Impact.{impact}
@@ -16,8 +16,8 @@ loop-i-init c = storing_none (omega arith) (cells_length _ _ _ (omega arith) (om
 
 pub cell-cell-requires : goal.cell-cell-requires
 cell-cell-requires c =
-    let h = c.requires.by_index c.loop-i.i (omega arith) in
-    let m = impact_most (get_or c.args.counts c.loop-i.i 0) c.squared-squares.result in
+    let h = c.requires.fit c.loop-i.i (omega arith) in
+    let m = impact_most c.from-count.result c.squared-squares.result in
     (omega arith, omega arith, omega arith)
 
 pub loop-i-preserved : goal.loop-i-preserved
@@ -27,6 +27,6 @@ loop-i-preserved c =
     -- what is put is the cell of the pair at i
     let e : c.cell-cell.result ≡ get_or (cells_of (side_by_side a.m a.terms a.counts)) i 0 =
     c.cell-cell.ensures
-    ∙ ap (packed (get_or a.terms i 0) (get_or a.counts i 0)) (c.of-impact.ensures ∙ ap (impact (get_or a.counts i 0)) c.squared-squares.ensures)
+    ∙ rw (c.from.ensures, c.of-impact.ensures, c.squared-squares.ensures, c.from-count.ensures) refl
     ∙ sym (cell_at a.m a.terms a.counts (omega arith) (omega arith) i (omega arith)) in
     storing_word (omega arith) (omega arith) (rw (← e) (search rules)) (rw (← e) c.put.ensures) c.loop-i.invariant

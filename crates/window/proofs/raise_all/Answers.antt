@@ -1,22 +1,16 @@
 -- `raise_all` meets its contract. Assumes nothing.
 use native.Mathlib.Omega.{arith}
-use borrow.Author.Rules.{rules}
-use Rattle.memory.specs.Words.{words}
 use Rattle.window.proofs.TableLaws.{raising_none, slots_next, slots_end}
 use Rattle.window.proofs.raise_all.Goals as goal
 
-pub loop-unseen-init : goal.loop-unseen-init
-loop-unseen-init c = (search rules, search rules, raising_none)
+pub loop-j-init : goal.loop-j-init
+loop-j-init c = let s = c.slots_from-j-items.ensures in rw (c.into_iter-j-iterator.ensures.into_iter_gives, s.0, s.1) (c.requires.1, raising_none)
 
-pub loop-unseen-preserved : goal.loop-unseen-preserved
-loop-unseen-preserved c =
-    let l = c.loop-unseen in
-    let a = c.args in
-    let t = c.raise_impacts.ensures in
-    (omega arith, t.0, rw c.following-j.ensures (slots_next (words a.state.now) a.first a.count l.j l.unseen (omega arith) t.1 l.invariant.2))
+pub loop-j-preserved : goal.loop-j-preserved
+loop-j-preserved c =
+    let t = c.in-Some.ensures.steps in
+    let raised = c.raise_impacts.ensures in
+    (raised.0, rw (t.2, t.3) (slots_next _ _ _ _ _ t.0 raised.1 (rw t.1 at c.loop-j.invariant.1)))
 
 pub returns : goal.returns
-returns c =
-    let l = c.loop-unseen in
-    let a = c.args in
-    (l.invariant.1, slots_end (words a.state.now) a.first a.count l.j l.unseen (omega arith) l.invariant.2)
+returns c = (c.loop-j.invariant.0, slots_end _ _ _ _ _ (omega (arith, c.in-None.ensures.steps)) c.loop-j.invariant.1)

@@ -1,5 +1,4 @@
 -- `raise_impacts`'s loops. Assumes nothing.
-use Prim.Native.Nat.{◌-◌, ◌≤◌}
 use mathlib.Core.Path.{◌≡◌}
 use lib.ListN.{length}
 use Rattle.memory.specs.Words.{words}
@@ -10,7 +9,4 @@ use Rattle.window.proofs.raise_impacts.Given as goal
 
 -- the cells from the i-th on are left
 abbrev pub invariant-loop-i : goal.invariant-loop-i
-invariant-loop-i l = (l.i ≤ l.size) × (length l.table ≡ term_limit) × Cells (slot (words l.state) l.j).cells l.initial.table l.i l.table
-
-abbrev pub decreases-loop-i : goal.decreases-loop-i
-decreases-loop-i l = l.size - l.i
+invariant-loop-i l = (length l.table ≡ term_limit) × Cells (slot (words l.state) l.j).cells l.initial.table l.i l.table

@@ -1,10 +1,9 @@
 -- `walk_to`'s loops. Assumes nothing.
+use mathlib.Core.Path.{◌≡◌}
 use Rattle.memory.specs.Words.{words}
-use Rattle.window.proofs.WalkLaws.{Unseen}
+use Rattle.window.specs.Slot.{ring, seek}
 use Rattle.window.proofs.walk_to.Given as goal
 
-abbrev pub invariant-loop-left : goal.invariant-loop-left
-invariant-loop-left l = Unseen (words l.state) l.serial l.first l.count l.j l.left
-
-abbrev pub decreases-loop-left : goal.decreases-loop-left
-decreases-loop-left l = l.left
+-- the serial is to be looked for in the iterator's slots
+abbrev pub invariant-loop-j : goal.invariant-loop-j
+invariant-loop-j l = seek (words l.state) l.serial (ring l.j-iterator.at l.j-iterator.left) ≡ seek (words l.state) l.serial (ring l.first l.count)
