@@ -83,10 +83,6 @@ module _ (w : List ℕ) (s o n : ℕ) where
     unfolding seek
     seek_next ne e = rw (e, ring_step o n some, ne_eqb (slot w o).serial s (λ z. ne (read ∙ z)))
 
--- none of the slots from `first` up to slot j has it, and `left` are yet to be looked at
-abbrev pub Unseen : (w : List ℕ) (s first count j left : ℕ) → Type 0
-Unseen w s first count j left = (j < slots) × (seek w s (ring j left) ≡ seek w s (ring first count))
-
 -- slots that don't have it are passed over
 seek_past : (w : List ℕ) (s : ℕ) (xs ys : List ℕ) → holds_serial s (map (slot w) xs) ≡ false → seek w s (xs ++ ys) ≡ seek w s ys
 unfolding seek holds_serial
@@ -127,12 +123,11 @@ seek_cases w s (j ∷ js) =
 
 -- those before slot j are counted
 pub record Counting (w : List ℕ) (first count found j left : ℕ) : Type 0 where
-  pub below : j < slots
   pub most : found + left ≤ count
   number : found + length (live w (ring j left)) ≡ length (live w (ring first count))
 
-pub counting_start : {w : List ℕ} {first count : ℕ} → first < slots → Counting w first count 0 first count
-counting_start low = record { below = low; most = omega arith; number = omega arith }
+pub counting_start : {w : List ℕ} {first count : ℕ} → Counting w first count 0 first count
+counting_start = record { most = omega arith; number = omega arith }
 
 module _ {w : List ℕ} {first count found j left : ℕ} (c : Counting w first count found j left) where
   module _ (some : 0 < left) {v p : ℕ} (read : v ≡ size_at w j) (e : p ≡ next j) where
@@ -142,15 +137,13 @@ module _ {w : List ℕ} {first count found j left : ℕ} (c : Counting w first c
 
     pub counting_hit : 0 < v → Counting w first count (found + 1) p (left - 1)
     counting_hit h =
-        let l = ap length (step ∙ ap (λ (b : Bool). cond b (j ∷ live w (ring p (left - 1))) (live w (ring p (left - 1))))
-        (lt-ltb 0 (get_or w (cell_count_at j) 0 % cell_limit) (omega arith))) in
-        record { below = omega (arith, c.below); most = omega (arith, c.most); number = omega (arith, c.number) }
+        let l = ap length (rw (lt-ltb 0 (get_or w (cell_count_at j) 0 % cell_limit) (omega arith)) at step) in
+        record { most = omega (arith, c.most); number = omega (arith, c.number) }
 
     pub counting_miss : v ≤ 0 → Counting w first count found p (left - 1)
     counting_miss h =
-        let l = ap length (step ∙ ap (λ (b : Bool). cond b (j ∷ live w (ring p (left - 1))) (live w (ring p (left - 1))))
-        (le-ltb 0 (get_or w (cell_count_at j) 0 % cell_limit) (omega arith))) in
-        record { below = omega (arith, c.below); most = omega (arith, c.most); number = omega (arith, c.number) }
+        let l = ap length (rw (le-ltb 0 (get_or w (cell_count_at j) 0 % cell_limit) (omega arith)) at step) in
+        record { most = omega (arith, c.most); number = omega (arith, c.number) }
 
   pub counting_end : left ≤ 0 → (found ≡ length (live w (ring first count))) × (found ≤ count)
   unfolding live select

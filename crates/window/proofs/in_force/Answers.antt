@@ -4,7 +4,7 @@ use Rattle.window.proofs.WalkLaws.{counting_start, counting_hit, counting_miss, 
 use Rattle.window.proofs.in_force.Goals as goal
 
 pub loop-j-init : goal.loop-j-init
-loop-j-init c = let s = c.slots_from-j-items.ensures in rw (c.into_iter-j-iterator.ensures.into_iter_gives, s.0, s.1) (counting_start (omega arith))
+loop-j-init c = let s = c.slots_from-j-items.ensures in rw (c.into_iter-j-iterator.ensures.into_iter_gives, s.0, s.1) counting_start
 
 pub loop-j-preserved-then-size_in-gt0 : goal.loop-j-preserved-then-size_in-gt0
 loop-j-preserved-then-size_in-gt0 c =

@@ -16,5 +16,4 @@ loop-i-init c = search rules
 pub loop-i-preserved : goal.loop-i-preserved
 loop-i-preserved c =
     let read = get_or-map cell_count (slot (words c.args.state.now) c.args.j).cells c.loop-i.i 0 in
-    let count = c.count_of-count in
-    (rw (squares_more, read, ← c.cell_at.ensures, ← count.ensures.0) (omega arith), omega (arith, square_most count.result count.ensures.1))
+    (grind (arith, squares_more), grind (arith, square_most))
