@@ -302,7 +302,8 @@ pub fn has_serial(state: &State, first: usize, count: usize, serial: u32) -> boo
     if end <= layout::SLOTS {
         return serial_among(state, first, end, serial);
     }
-    serial_among(state, first, layout::SLOTS, serial) | serial_among(state, 0, end - layout::SLOTS, serial)
+    serial_among(state, first, layout::SLOTS, serial)
+        | serial_among(state, 0, end - layout::SLOTS, serial)
 }
 
 // The slot of the first of the `count` messages from slot `first` on that has the serial, slot by slot; none where none has.
@@ -405,17 +406,15 @@ pub fn put_message(
 )
     requires in_bounds { (j < slots) × (urgency ≤ level vital) × (m ≤ most_pairs) }
     requires fit { (i : ℕ) → i < m → (get_or terms i 0 < 2 ^ term_width) × (get_or counts i 0 < 2 ^ count_width) }
-    ensures {
-        Written j
-            (record {
-              time = time;
-              serial = serial;
-              urgency = urgency_of urgency;
-              pairs = side_by_side m terms counts;
-              cancelled = false;
-            })
-            (words state.old) (words state.new)
-    }
+    ensures { Written j
+        (record {
+          time = time;
+          serial = serial;
+          urgency = urgency_of urgency;
+          pairs = side_by_side m terms counts;
+          cancelled = false;
+        })
+        (words state.old) (words state.new) }
 {
     memory::put(state, layout::SLOT_TIMES + j, time);
     memory::put(state, layout::SLOT_SERIALS + j, serial);
