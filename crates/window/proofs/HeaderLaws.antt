@@ -5,6 +5,7 @@ use mathlib.Core.Path.{◌≡◌, ap, ◌∙◌}
 use mathlib.Core.List.{List}
 use lib.ListN.{length, set, length-set}
 use lib.Seq.{get_or-set_same, get_or-set_other}
+use Rattle.std.proofs.lemmas.Grind.{common_steps}
 use Rattle.paper.specs.Layout.{clock_at, oldest_at, count_at, header_words, slots, state_length}
 use Rattle.memory.specs.Words.{words, put_word}
 use Rattle.memory.proofs.WordLaws.{words_length, put_word_lem, put_length}
@@ -22,14 +23,9 @@ cursor_set w clock oldest count h =
           keeps_more
           (keeps_more (keeps_more (keeps_refl clock_at header_words w) clock_at clock (omega arith) (omega arith)) oldest_at oldest (omega arith) (omega arith))
           count_at count (omega arith) (omega arith);
-      clock_is =
-          get_or-set_other (set (set w clock_at clock) oldest_at oldest) count_at clock_at count 0 (λ e. omega arith)
-          ∙ get_or-set_other (set w clock_at clock) oldest_at clock_at oldest 0 (λ e. omega arith)
-          ∙ get_or-set_same w clock_at clock 0 (omega arith);
-      oldest_is =
-          get_or-set_other (set (set w clock_at clock) oldest_at oldest) count_at oldest_at count 0 (λ e. omega arith)
-          ∙ get_or-set_same (set w clock_at clock) oldest_at oldest 0 (omega arith);
-      count_is = get_or-set_same (set (set w clock_at clock) oldest_at oldest) count_at count 0 (omega arith);
+      clock_is = grind (arith, common_steps);
+      oldest_is = grind (arith, common_steps);
+      count_is = grind (arith, common_steps);
     }
 
 -- as the words are put one after the other

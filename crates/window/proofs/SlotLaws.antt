@@ -10,6 +10,7 @@ use lib.ListN.{length, get_or, set, take, drop, length-set, length-take, length-
 use lib.Seq.{get_or-take, get_or-drop, get_or-set_same, get_or-set_other}
 use lib.Dec.{ltb}
 use borrow.Author.Tests.{ltb-true, ltb-false}
+use Rattle.std.proofs.lemmas.Grind.{common_steps}
 use Rattle.paper.specs.Frame.{level, most_pairs}
 use Rattle.paper.specs.Impact.{impact, squares}
 use Rattle.paper.specs.Order.{In}
@@ -91,29 +92,11 @@ slot_same w w' j long same =
 
 -- the slots' words lie in the ring
 in_ring_words : (j i : ℕ) → j < slots → InSlot j i → (time_at 0 ≤ i) × (i < record_at 0)
-in_ring_words j i h (inl e) = (omega arith, omega arith)
-in_ring_words j i h (inr (inl e)) = (omega arith, omega arith)
-in_ring_words j i h (inr (inr (inl e))) = (omega arith, omega arith)
-in_ring_words j i h (inr (inr (inr e))) = (omega arith, omega arith)
+in_ring_words j i h own = grind arith
 
 -- and no two slots share one: they are of one column, or of two
 words_apart : (j k i : ℕ) → j < slots → k < slots → (j ≡ k → ⊥) → InSlot j i → InSlot k i → ⊥
-words_apart j k i hj hk ne (inl a) (inl b) = ne (omega arith)
-words_apart j k i hj hk ne (inr (inl a)) (inr (inl b)) = ne (omega arith)
-words_apart j k i hj hk ne (inr (inr (inl a))) (inr (inr (inl b))) = ne (omega arith)
-words_apart j k i hj hk ne (inr (inr (inr a))) (inr (inr (inr b))) = ne (omega arith)
-words_apart j k i hj hk ne (inl a) (inr (inl b)) = omega arith
-words_apart j k i hj hk ne (inl a) (inr (inr (inl b))) = omega arith
-words_apart j k i hj hk ne (inl a) (inr (inr (inr b))) = omega arith
-words_apart j k i hj hk ne (inr (inl a)) (inl b) = omega arith
-words_apart j k i hj hk ne (inr (inl a)) (inr (inr (inl b))) = omega arith
-words_apart j k i hj hk ne (inr (inl a)) (inr (inr (inr b))) = omega arith
-words_apart j k i hj hk ne (inr (inr (inl a))) (inl b) = omega arith
-words_apart j k i hj hk ne (inr (inr (inl a))) (inr (inl b)) = omega arith
-words_apart j k i hj hk ne (inr (inr (inl a))) (inr (inr (inr b))) = omega arith
-words_apart j k i hj hk ne (inr (inr (inr a))) (inl b) = omega arith
-words_apart j k i hj hk ne (inr (inr (inr a))) (inr (inl b)) = omega arith
-words_apart j k i hj hk ne (inr (inr (inr a))) (inr (inr (inl b))) = omega arith
+words_apart j k i hj hk ne a b = grind arith
 
 -- what is written before or after the ring changes no slot
 pub slot_kept : {a e : ℕ} {w w' : List ℕ} → Keeps a e w w' → (j : ℕ) → j < slots → (record_at 0 ≤ a) ⊎ (e ≤ time_at 0) → slot w' j ≡ slot w j
@@ -209,40 +192,23 @@ slot_written j x m v w w' low long few all is cells = record {
 
     rest : (i : ℕ) → (InSlot j i → ⊥) → get_or w' i 0 ≡ get_or w i 0
     rest i out =
-        keeps_at cells.keeps i (outside (ltb i (cells_at j)) refl)
+        let side : (i < cells_at j) ⊎ (cells_at j + m ≤ i) = grind arith in
+        keeps_at cells.keeps i side
         ∙ get_or-set_other w₂ (cell_count_at j) i v 0 (λ e. out (inr (inr (inl e))))
         ∙ get_or-set_other w₁ (serial_at j) i x.serial 0 (λ e. out (inr (inl e)))
         ∙ get_or-set_other w (time_at j) i x.time 0 (λ e. out (inl e))
-      where
-        outside : (b : Bool) → ltb i (cells_at j) ≡ b → (i < cells_at j) ⊎ (cells_at j + m ≤ i)
-        outside true e = inl (ltb-true i (cells_at j) e)
-        outside false e = inr (after (ltb i (cells_at (suc j))) refl)
-          where
-            after : (b : Bool) → ltb i (cells_at (suc j)) ≡ b → cells_at j + m ≤ i
-            after true l = absurd (out (inr (inr (inr (ltb-false i (cells_at j) e, ltb-true i (cells_at (suc j)) l)))))
-            after false l = let k = ltb-false i (cells_at (suc j)) l in omega arith
 
     before : (i : ℕ) → i < cells_at j → get_or w' i 0 ≡ get_or w₃ i 0
     before i h = cells.keeps.below i h
 
     time_is : get_or w' (time_at j) 0 ≡ x.time
-    time_is =
-        before (time_at j) (omega arith)
-        ∙ get_or-set_other w₂ (cell_count_at j) (time_at j) v 0 (omega arith)
-        ∙ get_or-set_other w₁ (serial_at j) (time_at j) x.serial 0 (omega arith)
-        ∙ get_or-set_same w (time_at j) x.time 0 (omega arith)
+    time_is = before (time_at j) (omega arith) ∙ grind (arith, common_steps)
 
     serial_is : get_or w' (serial_at j) 0 ≡ x.serial
-    serial_is =
-        before (serial_at j) (omega arith)
-        ∙ get_or-set_other w₂ (cell_count_at j) (serial_at j) v 0 (omega arith)
-        ∙ get_or-set_same w₁ (serial_at j) x.serial 0 (let l = length-set w (time_at j) x.time in omega arith)
+    serial_is = before (serial_at j) (omega arith) ∙ grind (arith, common_steps)
 
     word_is : get_or w' (cell_count_at j) 0 ≡ v
-    word_is =
-        before (cell_count_at j) (omega arith)
-        ∙ get_or-set_same w₂ (cell_count_at j) v 0
-        (let l = length-set w (time_at j) x.time in let k = length-set w₁ (serial_at j) x.serial in omega arith)
+    word_is = before (cell_count_at j) (omega arith) ∙ grind (arith, common_steps)
 
     urgency_is : v / cell_limit ≡ level x.urgency
     urgency_is = omega arith
@@ -288,17 +254,13 @@ slot_silenced j x v w low long is kept = record {
     w₁ = set w (serial_at j) x
 
     time_is : get_or (set w₁ (cell_count_at j) v) (time_at j) 0 ≡ get_or w (time_at j) 0
-    time_is =
-        get_or-set_other w₁ (cell_count_at j) (time_at j) v 0 (omega arith)
-        ∙ get_or-set_other w (serial_at j) (time_at j) x 0 (omega arith)
+    time_is = grind (arith, common_steps)
 
     serial_is : get_or (set w₁ (cell_count_at j) v) (serial_at j) 0 ≡ x
-    serial_is =
-        get_or-set_other w₁ (cell_count_at j) (serial_at j) v 0 (omega arith)
-        ∙ get_or-set_same w (serial_at j) x 0 (omega arith)
+    serial_is = grind (arith, common_steps)
 
     word_is : get_or (set w₁ (cell_count_at j) v) (cell_count_at j) 0 ≡ v
-    word_is = get_or-set_same w₁ (cell_count_at j) v 0 (let l = length-set w (serial_at j) x in omega arith)
+    word_is = grind (arith, common_steps)
 
     urgency_is : v / cell_limit ≡ grade_in (slot w j)
     urgency_is = omega arith
