@@ -26,7 +26,7 @@ use Rattle.window.proofs.SlotLaws.{live_slots}
 
 pub held_time : (m : Message) → (held m).time ≡ m.time
 unfolding stored silenced
-held_time m = by_bool m.cancelled (λ e. rw e) (λ e. rw e)
+held_time m = grind arith
 
 -- no frame can say the serial of one that is cancelled
 pub holds_serial_lem : (s : ℕ) → s < 2 ^ serial_width → (ms : List Message) → Messages ms → holds_serial s (map held ms) ≡ has_serial s (select active ms)

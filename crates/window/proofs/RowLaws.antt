@@ -4,12 +4,14 @@ use native.Mathlib.Nat.{zero-add}
 use native.Mathlib.Numerals.{add-one}
 use native.Mathlib.Omega.{arith}
 use mathlib.Core.Path.{◌≡◌, refl, ap₂, ◌∙◌}
-use mathlib.Core.Bool.{Bool, true, false, cond, ◌||◌}
+use mathlib.Core.Bool.{Bool, true, false, cond, ◌||◌, or-false}
 use mathlib.Core.List.{List, ◌∷◌}
 use lib.ListN.{length, get_or, set, drop, length-set, drop_of_length-le}
 use lib.Seq.{get_or-set_same, get_or-set_other, drop-cons}
 use lib.Dec.{eqb, ltb}
 use borrow.Author.Tests.{eqb-true, eqb-false, ltb-true, ltb-false, lt-ltb}
+use Rattle.std.proofs.lemmas.Grind.{common_steps}
+use Rattle.std.proofs.lemmas.Bool.Decides.{nat_tests}
 use Rattle.paper.specs.Frame.{most_terms}
 use Rattle.impact.specs.Cell.{impact_width, cell_term, cell_impact}
 use Rattle.window.specs.Rows.{row_width, found, touches, LookedAt}
@@ -31,10 +33,10 @@ looked_cons : (c : ℕ) (cs places : List ℕ) (at : ℕ) (rows rows' : List ℕ
 unfolding found
 looked_cons c cs places at rows rows' fits low l = record {
   long = length-set rows' (at + q) x ∙ l.long;
-  is = λ p h. here p (eqb q p) refl (l.is p h);
+  is = λ p h. let e = l.is p h in let long = l.long in grind (arith, common_steps, nat_tests);
   before = λ k h. get_or-set_other rows' (at + q) k x 0 (λ e. omega arith) ∙ l.before k h;
   after = λ k h. get_or-set_other rows' (at + q) k x 0 (λ e. omega arith) ∙ l.after k h;
-  narrow = λ n k. small k (l.narrow n k) (eqb k (at + q)) refl;
+  narrow = λ n k. let few = l.narrow n k in let long = l.long in grind (arith, common_steps);
 }
   where
     q : ℕ
@@ -42,15 +44,6 @@ looked_cons c cs places at rows rows' fits low l = record {
 
     x : ℕ
     x = cell_impact c
-
-    here : (p : ℕ) (b : Bool) → eqb q p ≡ b → get_or rows' (at + p) 0 ≡ found places p cs (get_or rows (at + p) 0)
-        → get_or (set rows' (at + q) x) (at + p) 0 ≡ cond b x (found places p cs (get_or rows (at + p) 0))
-    here p true e ih = rw (← eqb-true q p e) (get_or-set_same rows' (at + q) x 0 (omega (arith, l.long)))
-    here p false e ih = let ne = eqb-false q p e in get_or-set_other rows' (at + q) (at + p) x 0 (λ z. ne (omega arith)) ∙ ih
-
-    small : (k : ℕ) → get_or rows' k 0 < 2 ^ impact_width → (b : Bool) → eqb k (at + q) ≡ b → get_or (set rows' (at + q) x) k 0 < 2 ^ impact_width
-    small k h true e = rw (eqb-true k (at + q) e, get_or-set_same rows' (at + q) x 0 (omega (arith, l.long))) (omega arith)
-    small k h false e = rw (get_or-set_other rows' (at + q) k x 0 (eqb-false k (at + q) e)) h
 
 pub looked_more : (cs places : List ℕ) (at : ℕ) (rows rows' : List ℕ) (i c : ℕ) → at + row_width ≤ length rows → get_or places (cell_term c) 0 ≤ most_terms
     → 0 < i → i ≤ length cs → get_or cs (i - 1) 0 ≡ c → LookedAt (drop i cs) places at rows rows'
@@ -65,18 +58,8 @@ module _ (places cs : List ℕ) (i s : ℕ) where
   pub touches_more : (c : ℕ) → i < length cs → get_or cs i 0 ≡ c
       → (ltb 0 (s + get_or places (cell_term c) 0) || touches places (drop (i + 1) cs)) ≡ (ltb 0 s || touches places (drop i cs))
   unfolding touches
-  touches_more c h e = rw (drop-cons cs i 0 h, e, add-one) (go (ltb 0 s) refl)
-    where
-      go : (b : Bool) → ltb 0 s ≡ b
-          → (ltb 0 (s + get_or places (cell_term c) 0) || touches places (drop (suc i) cs))
-          ≡ (b || (ltb 0 (get_or places (cell_term c) 0) || touches places (drop (suc i) cs)))
-      go true p = rw (lt-ltb 0 (s + get_or places (cell_term c) 0) (omega (arith, ltb-true 0 s p)))
-      go false p = let z : s ≡ 0 = omega (arith, ltb-false 0 s p) in rw (z, zero-add)
+  touches_more c h e = rw (drop-cons cs i 0 h, e, add-one) (grind (arith, nat_tests))
 
   pub touches_end : length cs ≤ i → ltb 0 s ≡ (ltb 0 s || touches places (drop i cs))
   unfolding touches
-  touches_end h = rw (drop_of_length-le cs h) (go (ltb 0 s))
-    where
-      go : (b : Bool) → b ≡ (b || false)
-      go true = refl
-      go false = refl
+  touches_end h = rw (drop_of_length-le cs h, or-false)

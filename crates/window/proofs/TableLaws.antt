@@ -9,6 +9,8 @@ use lib.ListN.{length, get_or, set, drop, replicate, get_or-replicate, drop_of_l
 use lib.Seq.{get_or-set_same, get_or-set_other, drop-cons}
 use lib.Dec.{eqb, ltb}
 use borrow.Author.Tests.{eqb-true, eqb-false, ne_eqb}
+use Rattle.std.proofs.lemmas.Grind.{common_steps}
+use Rattle.std.proofs.lemmas.Bool.Decides.{nat_tests}
 use Rattle.paper.specs.Sort.{select}
 use Rattle.paper.proofs.Tests.{by_bool}
 use Rattle.impact.specs.Cell.{cell_term, cell_impact, lookup, RisingCells}
@@ -50,11 +52,7 @@ module _ (cs : List ℕ) {first table : List ℕ} (i : ℕ) where
       let n : suc i ≡ i + 1 = omega arith in
       raising_more (has c) (λ t. highest t (drop (i + 1) cs))
       (λ t. ap (highest t) (drop-cons cs i 0 h ∙ ap₂ (λ (y k : ℕ). y ∷ drop k cs) e n))
-      (λ t l. go t (eqb (cell_term c) t) refl)
-    where
-      go : (t : ℕ) (b : Bool) → eqb (cell_term c) t ≡ b → entry_of (set table (cell_term c) v) t ≡ max (entry_of table t) (cond b (cell_impact c) 0)
-      go t true q = rw (← eqb-true (cell_term c) t q) (get_or-set_same table (cell_term c) v 0 long ∙ put)
-      go t false q = get_or-set_other table (cell_term c) t v 0 (λ z. eqb-false (cell_term c) t q (sym z)) ∙ omega arith
+      (λ t l. grind (arith, common_steps, nat_tests))
 
   pub cells_end : length cs ≤ i → Cells cs first i table → Raised cs first table
   unfolding highest
