@@ -1,19 +1,17 @@
 -- A message's cells put into a row, from the last to the first. Assumes nothing.
-use Prim.Native.Nat.{ℕ, suc, ◌+◌, ◌-◌, ◌^◌, ◌≤◌, ◌<◌}
-use native.Mathlib.Nat.{zero-add}
+use Prim.Native.Nat.{ℕ, suc, ◌+◌, ◌-◌, ◌≤◌, ◌<◌}
 use native.Mathlib.Numerals.{add-one}
 use native.Mathlib.Omega.{arith}
 use mathlib.Core.Path.{◌≡◌, refl, ap₂, ◌∙◌}
-use mathlib.Core.Bool.{Bool, true, false, cond, ◌||◌, or-false}
+use mathlib.Core.Bool.{◌||◌, or-false}
 use mathlib.Core.List.{List, ◌∷◌}
 use lib.ListN.{length, get_or, set, drop, length-set, drop_of_length-le}
-use lib.Seq.{get_or-set_same, get_or-set_other, drop-cons}
-use lib.Dec.{eqb, ltb}
-use borrow.Author.Tests.{eqb-true, eqb-false, ltb-true, ltb-false, lt-ltb}
+use lib.Seq.{get_or-set_other, drop-cons}
+use lib.Dec.{ltb}
 use Rattle.std.proofs.lemmas.Grind.{common_steps}
 use Rattle.std.proofs.lemmas.Bool.Decides.{nat_tests}
 use Rattle.paper.specs.Frame.{most_terms}
-use Rattle.impact.specs.Cell.{impact_width, cell_term, cell_impact}
+use Rattle.impact.specs.Cell.{cell_term, cell_impact}
 use Rattle.window.specs.Rows.{row_width, found, touches, LookedAt}
 
 pub looked_none : (places : List ℕ) (at : ℕ) (rows cs : List ℕ) (i : ℕ) → length cs ≤ i → LookedAt (drop i cs) places at rows rows

@@ -1,14 +1,13 @@
 // The window: a ring of message slots in the state memory, and the cursor that says which of them fill a place.
 #![tactic(auto)]
 
-ghost use Rattle.std.specs.Prelude.{◌≡◌, ℕ, ◌+◌, ◌*◌, ◌-◌, ◌%◌, ◌^◌, ◌<◌, ◌≤◌, min, max, false, ◌||◌, length, get_or};
-ghost use Rattle.std.specs.Prelude.{MatchOption};
+ghost use Rattle.std.specs.Prelude.{◌≡◌, ℕ, ◌+◌, ◌-◌, ◌^◌, ◌<◌, ◌≤◌, false, length, get_or, MatchOption};
 ghost use Rattle.std.specs.Iterator.{at_most};
 ghost use Rattle.paper.specs.Frame.{level, urgency_of, term_width, count_width, most_pairs, most_terms};
 ghost use Rattle.paper.specs.Frame.Urgency.{vital};
 ghost use Rattle.paper.specs.Window.{past};
 ghost use Rattle.paper.specs.Write.{side_by_side};
-ghost use Rattle.paper.specs.Layout.{slots, state_words, state_length};
+ghost use Rattle.paper.specs.Layout.{slots, state_words};
 ghost use Rattle.memory.specs.Words.{words};
 ghost use Rattle.memory.specs.Keeps.{Stored};
 ghost use Rattle.impact.specs.Cell.{most_squares, cell_count, cells_of, cell_squares, cell_with, lookup};

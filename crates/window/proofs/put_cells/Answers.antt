@@ -3,11 +3,10 @@ use native.Mathlib.Omega.{arith}
 use mathlib.Core.Path.{◌≡◌, refl, sym, ◌∙◌}
 use lib.ListN.{get_or}
 use borrow.Author.Rules.{rules}
-use Rattle.paper.specs.Impact.{impact}
 use Rattle.paper.specs.Write.{side_by_side}
 use Rattle.paper.proofs.ImpactLaws.{impact_most}
 use Rattle.memory.proofs.ArrayLaws.{storing_none, storing_word}
-use Rattle.impact.specs.Cell.{packed, cells_of}
+use Rattle.impact.specs.Cell.{cells_of}
 use Rattle.window.proofs.SlotLaws.{cells_length, cell_at}
 use Rattle.window.proofs.put_cells.Goals as goal
 

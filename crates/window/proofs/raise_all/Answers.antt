@@ -1,5 +1,4 @@
 -- `raise_all` meets its contract. Assumes nothing.
-use native.Mathlib.Omega.{arith}
 use borrow.Author.Rules.{rules}
 use Rattle.window.proofs.TableLaws.{raising_none, slots_next, slots_end}
 use Rattle.window.proofs.raise_all.Goals as goal

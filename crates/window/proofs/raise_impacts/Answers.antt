@@ -1,5 +1,4 @@
 -- `raise_impacts` meets its contract. Assumes nothing.
-use native.Mathlib.Omega.{arith}
 use mathlib.Core.Path.{sym}
 use borrow.Author.Rules.{rules}
 use Rattle.window.proofs.TableLaws.{raising_none, cells_next, cells_end}
