@@ -9,6 +9,7 @@ use mathlib.Core.List.{List, [], ◌∷◌, ◌++◌, map}
 use lib.ListN.{length, drop, length-map}
 use lib.Dec.{ltb}
 use borrow.Author.Tests.{ltb-true, ltb-false, lt-ltb, ne_eqb}
+use Rattle.std.proofs.lemmas.Bool.Decides.{nat_tests}
 use Rattle.paper.specs.Frame.{serial_width, most_pairs}
 use Rattle.paper.specs.Window.{Message, aged, filling, filled}
 use Rattle.paper.specs.Layout.{slots}
@@ -32,20 +33,12 @@ held_time m = grind arith
 pub holds_serial_lem : (s : ℕ) → s < 2 ^ serial_width → (ms : List Message) → Messages ms → holds_serial s (map held ms) ≡ has_serial s (select active ms)
 unfolding holds_serial has_serial stored silenced select
 holds_serial_lem s h [] v = refl
-holds_serial_lem s h (m ∷ ms) v =
-    by_bool m.cancelled
-    (λ e.
-    let other = ne_eqb (m.serial % 2 ^ serial_width + 2 ^ serial_width * min (length m.pairs) most_pairs) s (λ z. omega (arith, v.1.least_one)) in
-    rw (e, holds_serial_lem s h ms v.2, other))
-    (λ e. rw (e, holds_serial_lem s h ms v.2))
+holds_serial_lem s h (m ∷ ms) v = let ih = holds_serial_lem s h ms v.2 in let some = v.1.least_one in grind (arith, nat_tests)
 
 -- so one that has a serial that a frame can say isn't
 pub held_serial : (s : ℕ) → s < 2 ^ serial_width → (m : Message) → 1 ≤ length m.pairs → (held m).serial ≡ s → (m.cancelled ≡ false) × (m.serial ≡ s)
 unfolding stored silenced
-held_serial s h m some e =
-    by_bool m.cancelled
-    (λ c. let z : m.serial % 2 ^ serial_width + 2 ^ serial_width * min (length m.pairs) most_pairs ≡ s = rw c at e in absurd (omega arith))
-    (λ c. (c, rw c at e))
+held_serial s h m some e = grind arith
 
 -- the slots in force of some that hold messages hold those in force
 pub live_shows : (w js : List ℕ) (ms : List Message) → Messages ms → map (slot w) js ≡ map held ms → map (slot w) (live w js) ≡ map stored (select active ms)
@@ -54,8 +47,7 @@ live_shows w js ms v e = live_slots w js ∙ ap (select (λ x. ltb 0 x.size)) e 
   where
     go : (ms : List Message) → Messages ms → select (λ x. ltb 0 x.size) (map held ms) ≡ map stored (select active ms)
     go [] v = refl
-    go (m ∷ ms) v =
-        by_bool m.cancelled (λ c. rw (c, go ms v.2)) (λ c. rw (c, lt-ltb 0 (length m.pairs) v.1.least_one, go ms v.2))
+    go (m ∷ ms) v = let ih = go ms v.2 in let some = v.1.least_one in grind (arith, nat_tests)
 
 -- all of them where none is cancelled
 pub live_all : (w js : List ℕ) (ms : List Message) → Messages ms → map (slot w) js ≡ map stored ms → live w js ≡ js
@@ -77,30 +69,13 @@ module _ (N T : ℕ) where
   vacating_past : (t t' : ℕ) (l ms : List Message) → drop_past T t' (map held (vacating N T t t' 0 l ++ ms)) ≡ drop_past T t' (map held ms)
   unfolding drop_past vacating
   vacating_past t t' [] ms = refl
-  vacating_past t t' (m ∷ l) ms = rw (add-zero (length l)) (go (ltb (length l) N) (aged T t m) (aged T t' m) refl (vacating_past t t' l ms))
-    where
-      gone : List Message
-      gone = vacating N T t t' 0 l
-
-      go : (a b p : Bool) → aged T t' m ≡ p → drop_past T t' (map held (gone ++ ms)) ≡ drop_past T t' (map held ms)
-          → drop_past T t' (map held (cond (a && not b && not (a && not p)) (m ∷ gone) gone ++ ms)) ≡ drop_past T t' (map held ms)
-      go true false true e ih = rw (held_time m, e) ih
-      go true false false e ih = ih
-      go true true p e ih = ih
-      go false b p e ih = ih
+  vacating_past t t' (m ∷ l) ms = let ih = vacating_past t t' l ms in let e = held_time m in rw (add-zero (length l)) (grind arith)
 
   -- the first in force isn't past
   filled_first : (t : ℕ) (l : List Message) → drop_past T t (map held (filled N T t l)) ≡ map held (filled N T t l)
   unfolding drop_past filled
   filled_first t [] = refl
-  filled_first t (m ∷ l) = go (ltb (length l) N) (aged T t m) refl (filled_first t l)
-    where
-      go : (a p : Bool) → aged T t m ≡ p → drop_past T t (map held (filled N T t l)) ≡ map held (filled N T t l)
-          → drop_past T t (map held (cond (a && not p) (m ∷ filled N T t l) (filled N T t l)))
-          ≡ map held (cond (a && not p) (m ∷ filled N T t l) (filled N T t l))
-      go true false e ih = rw (held_time m, e)
-      go true true e ih = ih
-      go false p e ih = ih
+  filled_first t (m ∷ l) = let ih = filled_first t l in let e = held_time m in grind arith
 
   pub past_filled : (t t' c : ℕ) (l : List Message) → Chronological c l → t ≤ t' → drop_past T t' (map held (filled N T t l)) ≡ map held (filled N T t' l)
   past_filled t t' c l o h =
