@@ -1,22 +1,21 @@
 -- The window and the paper log: a window that holds what fills a place holds it again once past messages left and room was made; the slots in
 -- force and the serials among them. Assumes nothing.
-use Prim.Native.Nat.{ℕ, ◌+◌, ◌*◌, ◌-◌, ◌%◌, ◌^◌, ◌≤◌, ◌<◌, min}
+use Prim.Native.Nat.{ℕ, ◌+◌, ◌-◌, ◌^◌, ◌≤◌, ◌<◌}
 use native.Mathlib.Nat.{add-zero}
 use native.Mathlib.Omega.{arith}
 use mathlib.Core.Path.{◌≡◌, refl, sym, ap, ap₂, ◌∙◌}
-use mathlib.Core.Bool.{Bool, true, false, cond, not, ◌&&◌}
+use mathlib.Core.Bool.{Bool, true, false, cond}
 use mathlib.Core.List.{List, [], ◌∷◌, ◌++◌, map}
 use lib.ListN.{length, drop, length-map}
 use lib.Dec.{ltb}
-use borrow.Author.Tests.{ltb-true, ltb-false, lt-ltb, ne_eqb}
+use borrow.Author.Tests.{ltb-true, ltb-false, lt-ltb}
 use Rattle.std.proofs.lemmas.Bool.Decides.{nat_tests}
-use Rattle.paper.specs.Frame.{serial_width, most_pairs}
-use Rattle.paper.specs.Window.{Message, aged, filling, filled}
+use Rattle.paper.specs.Frame.{serial_width}
+use Rattle.paper.specs.Window.{Message, filling, filled}
 use Rattle.paper.specs.Layout.{slots}
 use Rattle.paper.specs.Log.{Log, has_serial, filled_at, filled_now}
 use Rattle.paper.specs.Sort.{select}
 use Rattle.paper.specs.Sound.{Chronological, Messages, Sound}
-use Rattle.paper.proofs.Tests.{by_bool}
 use Rattle.paper.proofs.WindowLaws.{active, fills, filling_true, staying, staying_none, all_stay, vacating, vacating_staying}
 use Rattle.window.specs.Slot.{Slot, slot, stored, silenced, held, ring, window, live, next, drop_past, holds_serial}
 use Rattle.window.specs.Cursor.{Advanced, Roomy}

@@ -2,17 +2,16 @@
 use Prim.Native.Nat.{ℕ, suc, ◌+◌, ◌-◌, ◌≤◌, ◌<◌, max}
 use native.Mathlib.Nat.{zero-max}
 use native.Mathlib.Omega.{arith}
-use mathlib.Core.Path.{◌≡◌, refl, sym, ap, ap₂, ◌∙◌}
-use mathlib.Core.Bool.{Bool, true, false, cond}
+use mathlib.Core.Path.{◌≡◌, refl, ap, ap₂, ◌∙◌}
+use mathlib.Core.Bool.{cond}
 use mathlib.Core.List.{List, [], ◌∷◌, map}
 use lib.ListN.{length, get_or, set, drop, replicate, get_or-replicate, drop_of_length-le}
 use lib.Seq.{drop-cons}
-use lib.Dec.{eqb, ltb}
-use borrow.Author.Tests.{eqb-true, ne_eqb}
+use lib.Dec.{eqb}
+use borrow.Author.Tests.{ne_eqb}
 use Rattle.std.proofs.lemmas.Grind.{common_steps}
 use Rattle.std.proofs.lemmas.Bool.Decides.{nat_tests}
 use Rattle.paper.specs.Sort.{select}
-use Rattle.paper.proofs.Tests.{by_bool}
 use Rattle.impact.specs.Cell.{cell_term, cell_impact, lookup, RisingCells}
 use Rattle.window.specs.Slot.{Slot, slot, next, window, live}
 use Rattle.window.specs.Table.{term_limit, highest, greatest, entry_of, Raised, RaisedBy, TableOf}
@@ -86,9 +85,7 @@ table_of {xs} raised = record {
 pub greatest_live : (w js : List ℕ) (t : ℕ) → greatest t (map (slot w) (live w js)) ≡ greatest t (map (slot w) js)
 unfolding live select greatest highest
 greatest_live w [] t = refl
-greatest_live w (j ∷ js) t =
-    let ih = greatest_live w js t in
-    by_bool (ltb 0 (slot w j).size) (λ e. rw (e, ih)) (λ e. rw (e, silent_cells w j e) (ih ∙ sym (zero-max (greatest t (map (slot w) js)))))
+greatest_live w (j ∷ js) t = let ih = greatest_live w js t in let silent = silent_cells w j in grind (arith, nat_tests)
 
 -- ---- of cells that rise only one has a term
 
@@ -100,11 +97,7 @@ highest_missing t (c ∷ cs) h = rw (ne_eqb (cell_term c) t (h 0 (omega arith)),
 pub highest_lookup : (t : ℕ) (cs : List ℕ) → RisingCells cs → highest t cs ≡ lookup t cs
 unfolding highest lookup
 highest_lookup t [] r = refl
-highest_lookup t (c ∷ cs) r = go (eqb (cell_term c) t) refl (highest_lookup t cs (λ i j l k. r (suc i) (suc j) (omega arith) (omega arith)))
-  where
-    go : (b : Bool) → eqb (cell_term c) t ≡ b → highest t cs ≡ lookup t cs
-        → max (cond b (cell_impact c) 0) (highest t cs) ≡ cond b (cell_impact c) (lookup t cs)
-    go true e ih =
-        let none = highest_missing t cs (λ i l z. omega (arith, r 0 (suc i) (omega arith) (omega arith), eqb-true (cell_term c) t e)) in
-        omega arith
-    go false e ih = rw ih (zero-max (lookup t cs))
+highest_lookup t (c ∷ cs) r =
+    let ih = highest_lookup t cs (λ i j l k. r (suc i) (suc j) (omega arith) (omega arith)) in
+    let none : cell_term c ≡ t → highest t cs ≡ 0 = λ e. highest_missing t cs (λ i l z. omega (arith, r 0 (suc i) (omega arith) (omega arith))) in
+    grind (arith, nat_tests)

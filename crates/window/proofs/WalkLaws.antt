@@ -9,7 +9,7 @@ use lib.Dec.{eqb, ltb}
 use mathlib.Core.Logic.{◌⊎◌, inl, inr, ⊎_elim}
 use borrow.Author.Tests.{eqb-true, eq-eqb, ne_eqb, lt-ltb, le-ltb}
 use Rattle.paper.proofs.Tests.{by_bool}
-use Rattle.paper.proofs.Tests as Tests
+use Rattle.std.proofs.lemmas.Bool.Decides.{nat_tests}
 use Rattle.paper.proofs.SortLaws.{in_right}
 use Rattle.paper.specs.Order.{In}
 use Rattle.paper.specs.Sort.{select}
@@ -87,7 +87,7 @@ module _ (w : List ℕ) (s o n : ℕ) where
 seek_past : (w : List ℕ) (s : ℕ) (xs ys : List ℕ) → holds_serial s (map (slot w) xs) ≡ false → seek w s (xs ++ ys) ≡ seek w s ys
 unfolding seek holds_serial
 seek_past w s [] ys e = refl
-seek_past w s (x ∷ xs) ys e = let z = Tests.or_false (eqb (slot w x).serial s) (holds_serial s (map (slot w) xs)) e in rw z.0 (seek_past w s xs ys z.1)
+seek_past w s (x ∷ xs) ys e = let ih = seek_past w s xs ys in grind (arith, nat_tests)
 
 pub seek_run : (w : List ℕ) (s o n run : ℕ) → o < slots → run ≤ n → {b : Bool} → b ≡ holds_serial s (window w o (o + run - o)) → b ≡ false
     → seek w s (ring ((o + run) % slots) (n - run)) ≡ seek w s (ring o n)

@@ -232,7 +232,7 @@ impl Cursor {
         }
     }
 
-    // The clock moves on, and past messages go.
+    // The clock moves on, and past messages go: the cursor itself walks.
     pub fn advanced(mut self, state: &State, life: u32, clock: u32) -> Cursor
         requires { self.oldest < slots }
         ensures { Advanced (words state.now) life self.oldest self.count clock result.clock result.oldest result.count }
@@ -321,7 +321,7 @@ fn walk_to(state: &State, first: usize, count: usize, serial: u32) -> Option<usi
 // So many slots are compared with a serial before it is asked whether one has it: no comparison waits for another then.
 const AT_ONCE: usize = 16;
 
-// The same slot. Runs of slots without the serial are passed over whole.
+// The same slot. Runs of slots without the serial are passed over whole; they differ in length, so no iterator gives the places.
 pub fn slot_of(state: &State, first: usize, count: usize, serial: u32) -> Option<usize>
     requires { first < slots }
     ensures { Sought (words state.now) serial (ring first count) result }
