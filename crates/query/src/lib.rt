@@ -129,13 +129,10 @@ fn store(state: &mut State, q: usize, thresholds: [u32; 8], list: Ranked, flags:
     ensures { StoredKept q thresholds list flags (words state.old) (words state.new) }
 {
     let at = layout::RECORDS + layout::RECORD * q;
-    let count = list.count;
-    let serials = list.serials;
-    let keys = list.keys;
-    memory::put(state, at + layout::LISTED, count as u32);
+    memory::put(state, at + layout::LISTED, list.count as u32);
     memory::store(state, at + layout::THRESHOLDS, thresholds);
-    memory::store(state, at + layout::SERIALS, serials);
-    memory::store(state, at + layout::KEYS, keys);
+    memory::store(state, at + layout::SERIALS, list.serials);
+    memory::store(state, at + layout::KEYS, list.keys);
     memory::store(state, at + layout::FLAGS, flags);
 }
 
@@ -185,8 +182,7 @@ fn is_safe(query: Query, thresholds: [u32; 8], list: Ranked) -> bool
     requires in_scale { (i : ℕ) → get_or thresholds i 0 ≤ top }
     ensures { result ≡ secure query thresholds list }
 {
-    let weights = query.weights;
-    let sum = rank::weighted(weights, thresholds, query.n);
+    let sum = rank::weighted(query.weights, thresholds, query.n);
     if sum == 0 {
         return true;
     }
