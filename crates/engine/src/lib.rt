@@ -9,7 +9,6 @@ ghost use Rattle.paper.specs.Write.{side_by_side};
 ghost use Rattle.paper.specs.Window.{most_messages, arrival};
 ghost use Rattle.paper.specs.Layout.{slots, capacity_at};
 ghost use Rattle.paper.specs.Log.{in_ranges};
-ghost use Rattle.wire.specs.Bits.{Bytes};
 ghost use Rattle.memory.specs.Words.{words};
 ghost use Rattle.engine.specs.Told.{number_told, told_reply, told_list, told_count, told_search, told_closeness};
 ghost use Rattle.engine.specs.Post.{StartPost, FramePost, ListPost, PostingsPost, SearchPost, ClosenessPost, ScreenPost};
@@ -342,10 +341,12 @@ fn first_eight(terms: [u16; MOST_PAIRS], weights: [u8; MOST_PAIRS]) -> Weighted
     few
 }
 
-// A frame of any kind, on memory of the right length. That an array holds bytes after a call is for the caller to say.
-fn by_kind(state: &mut State, bytes: &[u8]) -> Result<Reply, Refusal>
-    ensures { Bytes state.new → FramePost state.old bytes.now (told_reply result) state.new }
+pub fn frame(state: &mut [u8], bytes: &[u8]) -> Result<Reply, Refusal>
+    ensures { FramePost state.old bytes.now (told_reply result) state.new }
 {
+    let Some(state) = state.as_mut_array::<{ layout::STATE }>() else {
+        return Err(Refusal::Memory);
+    };
     let parsed = frame::read(bytes)?;
     let terms = parsed.terms;
     let amounts = parsed.amounts;
@@ -370,15 +371,6 @@ fn by_kind(state: &mut State, bytes: &[u8]) -> Result<Reply, Refusal>
         Kind::Unregister { time, number } => unregister(state, time, number as usize),
         Kind::Cancel { time, serial } => cancel(state, time, serial),
     }
-}
-
-pub fn frame(state: &mut [u8], bytes: &[u8]) -> Result<Reply, Refusal>
-    ensures { FramePost state.old bytes.now (told_reply result) state.new }
-{
-    let Some(state) = state.as_mut_array::<{ layout::STATE }>() else {
-        return Err(Refusal::Memory);
-    };
-    by_kind(state, bytes)
 }
 
 // The number, which may be any, where a query is registered under it.

@@ -8,24 +8,20 @@ use mir.Syntax.{w32}
 use mir.Val.{Fits}
 use lib.ListN.{length, get_or, set, take, drop, replicate, length-append, length-drop, take-append-drop, length-set}
 use lib.Seq.{take_all, take_at, drop_at, length-take-le, get_or-append-add, get_or-drop, get_or-set_same, get_or-set_other, ext_get_or}
-use borrow.Author.Tests.{ne_eqb}
+use Rattle.std.specs.Prelude.{Ok}
 use Rattle.paper.specs.Frame.{most_listed}
 use Rattle.memory.specs.Words.{big_words, put_big}
 use Rattle.memory.specs.Keeps.{Keeps, Stored}
 use Rattle.memory.proofs.WordLaws.{put_big_lem, put_big_length, big_words_length, big_append}
 use Rattle.memory.proofs.KeepsLaws.{keeps_trans, keeps_wider, keeps_part, big_keeps}
 use Rattle.rank.specs.declared.Lines.{Lines}
-use Rattle.rank.specs.Listing.{listed, lines_of, TidyLines}
+use Rattle.closeness.specs.declared.Closeness.{Closeness}
 use Rattle.engine.specs.declared.Reply.{Reply}
-use Rattle.engine.specs.declared.Listing.{Listing}
 use Rattle.engine.specs.declared.Searched.{Searched}
-use Rattle.engine.specs.declared.Compared.{Compared}
+use Rattle.engine.specs.Told.{ToldReply, told_reply, ToldList, told_list, told_search, told_closeness}
 use Rattle.engine.specs.Post.{FramePost, ListPost, SearchPost, ClosenessPost}
 use Rattle.fennelrake.specs.Entry.{frame_answer, list_answer, search_answer, closeness_answer, FrameEntry, ListEntry, SearchEntry, ClosenessEntry}
-use Rattle.fennelrake.specs.Entry.{Output, heard_reply, heard_list, no_entry, heard_listing, heard_search, heard_closeness}
-
-output_same : (written number : ℕ) (a : List ℕ) → Output written number a a
-output_same written number a = record { long = refl; past = refl; refused = λ _. refl }
+use Rattle.fennelrake.specs.Entry.{Output, heard_reply, heard_list, heard_listing, heard_search, heard_closeness}
 
 -- two words are written
 record Two (x y : ℕ) (a a' : List ℕ) : Type 0 where
@@ -60,46 +56,17 @@ two_words {x} {y} a a₁ a₂ h fx fy e₁ e₂ = record {
 -- ---- frame
 
 pub frame_accepted : {s bytes a a₁ a₂ s' : List ℕ} (r : Reply) → frame_answer ≤ length a → Fits w32 r.marks → Fits w32 r.departures
-    → a₁ ≡ put_big a 0 r.marks → a₂ ≡ put_big a₁ 1 r.departures → r.number ≡ 0 → FramePost s bytes r s' → FrameEntry s bytes a r.number s' a₂
-frame_accepted {s} {bytes} {a} {a₁} {a₂} {s'} r h fm fd e₁ e₂ z p =
+    → a₁ ≡ put_big a 0 r.marks → a₂ ≡ put_big a₁ 1 r.departures → FramePost s bytes (told_reply (Ok r)) s' → FrameEntry s bytes a 0 s' a₂
+frame_accepted {s} {bytes} {a} {a₁} {a₂} {s'} r h fm fd e₁ e₂ p =
     let two = two_words a a₁ a₂ h fm fd e₁ e₂ in
-    let same : r ≡ heard_reply 0 a₂ = λ i. record { number = z i; marks = sym two.first i; departures = sym two.second i } in
-    rw z
-    (record {
+    let same : told_reply (Ok r) ≡ heard_reply 0 a₂ = λ i. record { number = 0; marks = sym two.first i; departures = sym two.second i } in
+    record {
       short = λ k. absurd (omega arith);
-      enough = λ _. subst (λ (x : Reply). FramePost s bytes x s') same p;
+      enough = λ _. subst (λ (x : ToldReply). FramePost s bytes x s') same p;
       output = two.output;
-    })
+    }
 
 -- ---- list
-
-zeros : (n i : ℕ) → get_or {A = ℕ} (replicate n 0) i 0 ≡ 0
-zeros zero i = refl
-zeros (suc n) zero = refl
-zeros (suc n) (suc i) = zeros n i
-
-pub none_tidy : TidyLines no_entry
-none_tidy = record { serials = λ i _. zeros most_listed i; values = λ i _. zeros most_listed i }
-
-none_listed : lines_of no_entry ≡ []
-unfolding listed
-none_listed = refl
-
-pub list_refused : {s a : List ℕ} {n : ℕ} {r : Listing} → list_answer ≤ length a → (r.number ≡ 0 → ⊥) → ListPost s n r → ListEntry s n a r.number a
-list_refused {s} {a} {n} {r} h nz p = record {
-  short = λ k. absurd (omega arith);
-  enough = λ _. rw (ne_eqb r.number 0 nz) nothing;
-  output = output_same list_answer r.number a;
-}
-  where
-    nothing : ListPost s n (record { number = r.number; list = no_entry })
-    nothing = record {
-      not_lent = p.not_lent;
-      no_number = p.no_number;
-      most = omega arith;
-      refused = λ _. (none_listed, none_tidy);
-      right = λ log is l. let t = p.right log is l in (t.0, none_listed ∙ sym (p.refused nz).0 ∙ t.1, none_tidy);
-    }
 
 -- the words of a list answer are the first, the serials and the scores
 in_three : (w : List ℕ) → 4 * length w ≡ list_answer → w ≡ get_or w 0 0 ∷ (take most_listed (drop 1 w) ++ take most_listed (drop (1 + most_listed) w))
@@ -129,44 +96,24 @@ module _ (part a : List ℕ) (l : Lines) (lp : length part ≡ list_answer) (ls 
       rw (append_assoc, drop_at ss (cs ++ rest) most_listed ls) (take_at cs rest most_listed lc) in
       rw (big_append part (drop list_answer a) (rw lp), e) (λ i. record { serials = sym first i; scores = sym second i; count = l.count })
 
-module _ (part a : List ℕ) (r : Listing) (h : list_answer ≤ length a) (lp : length part ≡ list_answer) (ls : length r.list.serials ≡ most_listed)
-    (lc : length r.list.scores ≡ most_listed) (e : big_words part ≡ r.list.count ∷ (r.list.serials ++ r.list.scores)) where
-  pub list_accepted : {s : List ℕ} {n : ℕ} → r.number ≡ 0 → ListPost s n r → ListEntry s n a r.number (part ++ drop list_answer a)
-  list_accepted {s} {n} z p =
-      rw z
-      (record {
+module _ (part a : List ℕ) (l : Lines) (h : list_answer ≤ length a) (lp : length part ≡ list_answer) (ls : length l.serials ≡ most_listed)
+    (lc : length l.scores ≡ most_listed) (e : big_words part ≡ l.count ∷ (l.serials ++ l.scores)) where
+  pub list_accepted : {s : List ℕ} {n : ℕ} → ListPost s n (told_list (Ok l)) → ListEntry s n a 0 (part ++ drop list_answer a)
+  list_accepted {s} {n} p =
+      record {
         short = λ k. absurd (omega arith);
-        enough = λ _. subst (λ (x : Listing). ListPost s n x) same p;
+        enough = λ _. subst (λ (x : ToldList). ListPost s n x) same p;
         output = record {
           long = simp (length-append, length-drop) (omega arith);
           past = drop_at part (drop list_answer a) list_answer lp;
           refused = λ nz. absurd (nz refl);
         };
-      })
+      }
     where
-      same : r ≡ heard_listing 0 (part ++ drop list_answer a)
-      same = λ i. record { number = z i; list = heard_list_lem part a r.list lp ls lc e i }
+      same : told_list (Ok l) ≡ heard_listing 0 (part ++ drop list_answer a)
+      same = λ i. record { number = 0; list = heard_list_lem part a l lp ls lc e i }
 
 -- ---- search
-
-pub search_refused : {s bytes a : List ℕ} {r : Searched} → search_answer ≤ length a → (r.number ≡ 0 → ⊥) → SearchPost s bytes r
-    → SearchEntry s bytes a r.number a
-search_refused {s} {bytes} {a} {r} h nz p = record {
-  short = λ k. absurd (omega arith);
-  enough = λ _. rw (ne_eqb r.number 0 nz) nothing;
-  output = output_same search_answer r.number a;
-}
-  where
-    nothing : SearchPost s bytes (record { number = r.number; list = no_entry; read = 0 })
-    nothing =
-        let z = p.refused nz in
-        record {
-          number = p.number;
-          most = omega arith;
-          tidy = none_tidy;
-          refused = λ _. (none_listed, refl);
-          right = λ log is. let t = p.right log is in (none_listed ∙ sym z.0 ∙ t.0, sym z.1 ∙ t.1);
-        }
 
 -- the word after a list's answer
 word_past : (p b : List ℕ) → length p ≡ list_answer → get_or (big_words (p ++ b)) (1 + 2 * most_listed) 0 ≡ get_or (big_words b) 0 0
@@ -205,28 +152,26 @@ module _ (part a a₁ : List ℕ) (r : Searched) (h : search_answer ≤ length a
       ∙ kept.above (list_answer + (4 + i)) (omega arith)
       ∙ ap (λ (k : ℕ). get_or a k 0) (omega arith)))
 
-  pub search_accepted : {s bytes : List ℕ} → r.number ≡ 0 → SearchPost s bytes r → SearchEntry s bytes a r.number whole
-  search_accepted {s} {bytes} z p =
-      rw z
-      (record {
+  pub search_accepted : {s bytes : List ℕ} → SearchPost s bytes (told_search (Ok r)) → SearchEntry s bytes a 0 whole
+  search_accepted {s} {bytes} p =
+      record {
         short = λ k. absurd (omega arith);
         enough = λ _. subst (SearchPost s bytes) same p;
         output = record { long = long; past = past; refused = λ nz. absurd (nz refl) };
-      })
+      }
     where
-      same : r ≡ heard_search 0 whole
-      same = λ i. record { number = z i; list = heard_list_lem part a₁ r.list lp ls lc e i; read = sym heard_read i }
+      same : told_search (Ok r) ≡ heard_search 0 whole
+      same = λ i. record { number = 0; list = heard_list_lem part a₁ r.list lp ls lc e i; read = sym heard_read i }
 
 -- ---- closeness
 
-pub closeness_accepted : {s a a₁ a₂ : List ℕ} {serial n : ℕ} (r : Compared) → closeness_answer ≤ length a → Fits w32 r.quotient → Fits w32 r.remainder
-    → a₁ ≡ put_big a 0 r.quotient → a₂ ≡ put_big a₁ 1 r.remainder → r.number ≡ 0 → ClosenessPost s serial n r → ClosenessEntry s serial n a r.number a₂
-closeness_accepted {s} {a} {a₁} {a₂} {serial} {n} r h fq fr e₁ e₂ z p =
+pub closeness_accepted : {s a a₁ a₂ : List ℕ} {serial n : ℕ} (r : Closeness) → closeness_answer ≤ length a → Fits w32 r.quotient → Fits w32 r.remainder
+    → a₁ ≡ put_big a 0 r.quotient → a₂ ≡ put_big a₁ 1 r.remainder → ClosenessPost s serial n (told_closeness (Ok r)) → ClosenessEntry s serial n a 0 a₂
+closeness_accepted {s} {a} {a₁} {a₂} {serial} {n} r h fq fr e₁ e₂ p =
     let two = two_words a a₁ a₂ h fq fr e₁ e₂ in
-    let same : r ≡ heard_closeness 0 a₂ = λ i. record { number = z i; quotient = sym two.first i; remainder = sym two.second i } in
-    rw z
-    (record {
+    let same : told_closeness (Ok r) ≡ heard_closeness 0 a₂ = λ i. record { number = 0; quotient = sym two.first i; remainder = sym two.second i } in
+    record {
       short = λ k. absurd (omega arith);
       enough = λ _. subst (ClosenessPost s serial n) same p;
       output = two.output;
-    })
+    }

@@ -20,12 +20,12 @@ use Rattle.rank.specs.Listing.{lines_of, TidyLines}
 use Rattle.engine.specs.Represents.{Represents, keeping}
 use Rattle.engine.specs.Post.{reply_of, close_of, StartPost}
 use Rattle.engine.proofs.RepresentsLaws.{all_settled}
+use Rattle.engine.proofs.ToldLaws.{no_entry_tidy}
 use Rattle.engine.proofs.Demand3.{begun, begun_long}
 use Rattle.fennelrake.specs.Entry.{frame_answer, list_answer, search_answer, closeness_answer, FrameEntry, ListEntry, SearchEntry, ClosenessEntry}
 use Rattle.fennelrake.specs.Entry.{heard_reply, heard_listing, heard_search, heard_closeness}
 use Rattle.fennelrake.specs.Demand3.{call_of, Calls, log_of, Demand3}
 use Rattle.fennelrake.specs.Demand3.Calls.{none_left, handed}
-use Rattle.fennelrake.proofs.AnswerLaws.{none_tidy}
 use Rattle.fennelrake.proofs.LentLaws.{after_enough, reply_enough, marked_enough, after_short, reply_short, list_enough, lines_enough}
 use Rattle.fennelrake.proofs.LentLaws.{list_short, lines_short, search_enough, search_short, compare_enough, compare_short, closeness_enough, closeness_short}
 use Rattle.fennelrake.proofs.LentLaws as Lent
@@ -112,7 +112,7 @@ module _ (log : Log) (s : List ℕ) (n : ℕ) (a a' : List ℕ) (r : ℕ) (is : 
   unfolding Listing.listed
   heard_short h =
       rw (p.short h)
-      (sym (list_short list_answer log state_length (length a) n h), sym (lines_short list_answer log state_length (length a) n h), none_tidy)
+      (sym (list_short list_answer log state_length (length a) n h), sym (lines_short list_answer log state_length (length a) n h), no_entry_tidy)
 
   heard : Heard
   heard = by_length list_answer (length a) heard_enough heard_short
@@ -138,7 +138,7 @@ module _ (log : Log) (s bytes a a' : List ℕ) (r : ℕ) (is : Represents log (w
   unfolding Listing.listed
   found_short h =
       rw (p.short h, search_short search_answer log bytes state_length (length a) h, Lent.found_short search_answer log bytes state_length (length a) h)
-      (refl, refl, refl, none_tidy)
+      (refl, refl, refl, no_entry_tidy)
 
   searched : HeardSearch
   searched = by_length search_answer (length a) found_enough found_short

@@ -1,5 +1,5 @@
 -- Laws of the writer's entry: terms of two bytes each, no more than the most pairs of them, and a number and a size in one number. Assumes nothing.
-use Prim.Native.Nat.{ℕ, zero, suc, ◌+◌, ◌*◌, ◌/◌, ◌%◌, ◌^◌, ◌≤◌, ◌<◌}
+use Prim.Native.Nat.{ℕ, zero, suc, min, ◌+◌, ◌*◌, ◌/◌, ◌%◌, ◌^◌, ◌≤◌, ◌<◌}
 use native.Mathlib.Nat.{not-suc-le-zero}
 use native.Mathlib.Numerals.{towards_suc}
 use native.Mathlib.Omega.{arith}
@@ -7,9 +7,9 @@ use mathlib.Core.Path.{◌≡◌, refl, sym, ap, ◌∙◌, subst}
 use mathlib.Core.Bool.{Bool, true, false, cond, and-false}
 use mathlib.Core.List.{List, [], ◌∷◌}
 use lib.ListN.{length, get_or, set, take, length-set, length-take}
-use lib.Seq.{take_all}
 use lib.Dec.{eqb, leb}
 use borrow.Author.Tests.{leb-true, leb-false, le-leb, lt-leb}
+use Rattle.std.proofs.lemmas.List.{take_min}
 use Rattle.wire.specs.Field.{total}
 use Rattle.paper.specs.Frame.{Pair, Fields, Shape, row_of, pairs_width, most_pairs}
 use Rattle.paper.specs.Frame.Shape.{refused, accepted}
@@ -17,10 +17,8 @@ use Rattle.paper.specs.Write.{side_by_side, head_within, from_kind, from_fields,
 use Rattle.paper.proofs.FrameLaws.{by_kind, encode_most}
 use Rattle.paper.proofs.WriteLaws.{unknown_kind, fields_valid}
 use Rattle.memory.proofs.ArrayLaws.{copy_more}
-use Rattle.frame.specs.declared.Written.{Written}
-use Rattle.frame.specs.Write.{fields, WritePost}
-use Rattle.engine.specs.declared.Found.{Found}
-use Rattle.fennelrake.specs.Entry.{heard_found, terms_of, heard_writing}
+use Rattle.frame.specs.Write.{Written, fields, WritePost}
+use Rattle.fennelrake.specs.Entry.{terms_of, heard_writing}
 
 -- ---- terms of two bytes
 
@@ -113,25 +111,12 @@ module _ (x : Fields) where
       go true e = few_cut (leb-true x.pairs most_pairs e) x.kind
       go false e = many_cut (leb-false x.pairs most_pairs e) x.kind
 
--- as many terms as there are, at most those
-take_cut : (count : ℕ) (ts : List ℕ) → count ≤ most_pairs → (count < most_pairs → count ≡ length ts) → take count ts ≡ take most_pairs ts
-take_cut count ts h all = go (leb most_pairs count) refl
-  where
-    go : (t : Bool) → leb most_pairs count ≡ t → take count ts ≡ take most_pairs ts
-    go true e = let s : count ≡ most_pairs = omega (arith, leb-true most_pairs count e) in rw s
-    go false e =
-        let s = all (leb-false most_pairs count e) in
-        take_all count ts (omega arith) ∙ sym (take_all most_pairs ts (omega arith))
-
 -- ---- a number and a size in one number
 
 -- both are heard again
 both_heard : (number size : ℕ) → size < 4294967296
     → (number ≡ (number * 4294967296 + size) / 4294967296) × (size ≡ (number * 4294967296 + size) % 4294967296)
 both_heard number size h = (omega arith, omega arith)
-
-pub found_heard : (r : Found) → r.count < 4294967296 → r ≡ heard_found (r.number * 4294967296 + r.count)
-found_heard r h = let e = both_heard r.number r.count h in λ i. record { number = e.0 i; count = e.1 i }
 
 -- no frame has more than 80 bytes
 pub written_most : (x : Fields) {s t : List ℕ} {w : Written} → WritePost (from_fields x) s t w → w.length ≤ 80
@@ -143,12 +128,12 @@ written_most x {w = w} p = go (from_fields x) refl (eqb w.number 0) p.size
     go (refused n) e true l = omega arith
     go (accepted f) e true l = let m = encode_most f (fields_valid x f e) in omega arith
 
-pub write_heard : (x : Fields) (count : ℕ) {first s t : List ℕ} {w : Written} → first ≡ take count x.terms → count ≤ most_pairs
-    → (count < most_pairs → count ≡ length x.terms)
+pub write_heard : (x : Fields) {count : ℕ} {first s t : List ℕ} {w : Written} → first ≡ take count x.terms → count ≡ min (length x.terms) most_pairs
     → WritePost (from_fields (with_terms x first)) s t w → WritePost (from_fields x) s t (heard_writing (w.number * 4294967296 + w.length))
-write_heard x count {first} {s} {t} {w} e h all p =
+write_heard x {count} {first} {s} {t} {w} e few p =
     let m : w.length ≤ 80 = written_most (with_terms x first) p in
     let e' = both_heard w.number w.length (omega arith) in
     let same : w ≡ heard_writing (w.number * 4294967296 + w.length) = λ i. record { number = e'.0 i; length = e'.1 i } in
-    let cut : from_fields (with_terms x first) ≡ from_fields x = rw (e, take_cut count x.terms h all) (fields_cut x) in
+    let most : count ≡ min most_pairs (length x.terms) = omega arith in
+    let cut : from_fields (with_terms x first) ≡ from_fields x = rw (e, most, take_min most_pairs x.terms) (fields_cut x) in
     subst (λ (v : Written). WritePost (from_fields x) s t v) same (subst (λ (sh : Shape). WritePost sh s t w) cut p)

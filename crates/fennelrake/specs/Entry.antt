@@ -1,15 +1,11 @@
 -- What the C entries promise, of what a host hears: the number returned, and the words of the lent answer, the most significant byte first.
 -- Document 01, "Replies". Assumes nothing.
-use Rattle.std.specs.Prelude.{ℕ, ◌+◌, ◌*◌, ◌/◌, ◌%◌, ◌≤◌, ◌<◌, ◌≡◌, cond, List, [], ◌∷◌, length, get_or, take, drop, replicate, eqb}
+use Rattle.std.specs.Prelude.{ℕ, ◌+◌, ◌*◌, ◌/◌, ◌%◌, ◌≤◌, ◌<◌, ◌≡◌, cond, List, [], ◌∷◌, length, get_or, take, drop, eqb}
 use Rattle.paper.specs.Frame.{most_listed}
 use Rattle.memory.specs.Words.{big_words}
 use Rattle.rank.specs.declared.Lines.{Lines}
-use Rattle.frame.specs.declared.Written.{Written}
-use Rattle.engine.specs.declared.Reply.{Reply}
-use Rattle.engine.specs.declared.Listing.{Listing}
-use Rattle.engine.specs.declared.Found.{Found}
-use Rattle.engine.specs.declared.Searched.{Searched}
-use Rattle.engine.specs.declared.Compared.{Compared}
+use Rattle.frame.specs.Write.{Written}
+use Rattle.engine.specs.Told.{ToldReply, ToldList, no_entry, ToldCount, ToldSearch, ToldCloseness}
 use Rattle.engine.specs.Post.{FramePost, ListPost, SearchPost, ClosenessPost}
 
 -- how many bytes the answers take, in words of four: marks and departures; the number of entries, then serials and scores
@@ -28,7 +24,7 @@ pub record Output (written number : ℕ) (a a' : List ℕ) : Type 0 where
 -- ---- frame
 
 -- marks and departures are the first two words of the answer, and 0 with a refusal
-abbrev pub heard_reply : ℕ → List ℕ → Reply
+abbrev pub heard_reply : ℕ → List ℕ → ToldReply
 heard_reply r a = record {
   number = r;
   marks = cond (eqb r 0) (get_or (big_words a) 0 0) 0;
@@ -47,10 +43,7 @@ pub record FrameEntry (s bytes a : List ℕ) (r : ℕ) (s' a' : List ℕ) : Type
 abbrev pub heard_list : List ℕ → Lines
 heard_list w = record { serials = take most_listed (drop 1 w); scores = take most_listed (drop (1 + most_listed) w); count = get_or w 0 0 }
 
-abbrev pub no_entry : Lines
-no_entry = record { serials = replicate most_listed 0; scores = replicate most_listed 0; count = 0 }
-
-abbrev pub heard_listing : ℕ → List ℕ → Listing
+abbrev pub heard_listing : ℕ → List ℕ → ToldList
 heard_listing r a = record { number = r; list = cond (eqb r 0) (heard_list (big_words a)) no_entry }
 
 pub record ListEntry (s : List ℕ) (n : ℕ) (a : List ℕ) (r : ℕ) (a' : List ℕ) : Type 0 where
@@ -64,7 +57,7 @@ pub record ListEntry (s : List ℕ) (n : ℕ) (a : List ℕ) (r : ℕ) (a' : Lis
 abbrev pub search_answer : ℕ
 search_answer = list_answer + 4
 
-abbrev pub heard_search : ℕ → List ℕ → Searched
+abbrev pub heard_search : ℕ → List ℕ → ToldSearch
 heard_search r a = record {
   number = r;
   list = (heard_listing r a).list;
@@ -82,7 +75,7 @@ pub record SearchEntry (s bytes a : List ℕ) (r : ℕ) (a' : List ℕ) : Type 0
 abbrev pub closeness_answer : ℕ
 closeness_answer = 4 * 2
 
-abbrev pub heard_closeness : ℕ → List ℕ → Compared
+abbrev pub heard_closeness : ℕ → List ℕ → ToldCloseness
 heard_closeness r a = record {
   number = r;
   quotient = cond (eqb r 0) (get_or (big_words a) 0 0) 0;
@@ -97,7 +90,7 @@ pub record ClosenessEntry (s : List ℕ) (serial n : ℕ) (a : List ℕ) (r : �
 -- ---- postings
 
 -- number and count in one number
-abbrev pub heard_found : ℕ → Found
+abbrev pub heard_found : ℕ → ToldCount
 heard_found r = record { number = r / 4294967296; count = r % 4294967296 }
 
 -- ---- write

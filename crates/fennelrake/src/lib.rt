@@ -2,15 +2,17 @@
 #![tactic(auto)]
 
 ghost use Rattle.std.specs.Prelude.{◌≡◌, ◌∷◌, ◌++◌, ◌+◌, ◌*◌, ◌≤◌, ◌<◌, length, take};
-ghost use Rattle.paper.specs.Frame.{most_pairs};
+ghost use Rattle.paper.specs.Frame.{most_pairs, most_listed};
+ghost use Rattle.paper.specs.Refusal.{number_of};
 ghost use Rattle.paper.specs.Write.{from_fields};
 ghost use Rattle.memory.specs.Words.{big_words};
 ghost use Rattle.frame.specs.Write.{fields, WritePost};
+ghost use Rattle.engine.specs.Told.{told_count};
 ghost use Rattle.engine.specs.Post.{StartPost, PostingsPost, ScreenPost};
 ghost use Rattle.fennelrake.specs.Entry.{list_answer, FrameEntry, ListEntry, SearchEntry, ClosenessEntry, terms_of, heard_found, heard_writing};
 
-use engine::Found;
-use paper::{MOST_LISTED, MOST_PAIRS};
+use paper::{MOST_LISTED, MOST_PAIRS, Refusal};
+use rank::Lines;
 
 // How many bytes the answers take, and where in a list's the scores start and in a search's the postings read stand, in words.
 const FRAME_ANSWER: usize = 4 * 2;
@@ -29,7 +31,10 @@ const CLOSENESS_ANSWER: usize = 4 * 2;
 pub extern "C" fn fennelrake_start(state: &mut [u8], capacity: u32, life: u32) -> u32
     ensures { StartPost capacity life state.old result state.new }
 {
-    engine::start(state, capacity, life)
+    match engine::start(state, capacity, life) {
+        Ok(()) => 0,
+        Err(refusal) => u32::from(refusal),
+    }
 }
 
 // The answer: marks and departures, four bytes each.
@@ -40,22 +45,23 @@ pub extern "C" fn fennelrake_frame(state: &mut [u8], bytes: &[u8], answer: &mut 
     if answer.len() < FRAME_ANSWER {
         return 12;
     }
-    let reply = engine::frame(state, bytes);
-    if reply.number != 0 {
-        return reply.number;
+    match engine::frame(state, bytes) {
+        Ok(reply) => {
+            memory::put_big(answer, 0, reply.marks);
+            memory::put_big(answer, 1, reply.departures);
+            0
+        }
+        Err(refusal) => u32::from(refusal),
     }
-    memory::put_big(answer, 0, reply.marks);
-    memory::put_big(answer, 1, reply.departures);
-    reply.number
 }
 
-fn put_list(answer: &mut [u8], count: u32, serials: [u32; MOST_LISTED], scores: [u32; MOST_LISTED])
-    requires { length answer.old ≡ list_answer }
-    ensures { big_words answer.new ≡ count ∷ (serials ++ scores) }
+fn put_list(answer: &mut [u8], list: Lines)
+    requires { (length answer.old ≡ list_answer) × (list.count ≤ most_listed) }
+    ensures { big_words answer.new ≡ list.count ∷ (list.serials ++ list.scores) }
 {
-    memory::put_big(answer, 0, count);
-    memory::store16_big(answer, 1, serials);
-    memory::store16_big(answer, LIST_SCORES, scores);
+    memory::put_big(answer, 0, list.count as u32);
+    memory::store_big(answer, 1, list.serials);
+    memory::store_big(answer, LIST_SCORES, list.scores);
 }
 
 // The answer: the number of entries, sixteen serials and sixteen scores, four bytes each.
@@ -66,20 +72,13 @@ pub extern "C" fn fennelrake_list(state: &[u8], number: u32, answer: &mut [u8]) 
     if answer.len() < LIST_ANSWER {
         return 12;
     }
-    let listing = engine::list(state, number);
-    if listing.number != 0 {
-        return listing.number;
+    match engine::list(state, number) {
+        Ok(list) => {
+            put_list(&mut answer[..LIST_ANSWER], list);
+            0
+        }
+        Err(refusal) => u32::from(refusal),
     }
-    let list = listing.list;
-    let serials = list.serials;
-    let scores = list.scores;
-    put_list(
-        &mut answer[..LIST_ANSWER],
-        list.count as u32,
-        serials,
-        scores,
-    );
-    listing.number
 }
 
 // The answer: that of a list, for the frame's query as if it were registered, and the postings read.
@@ -90,21 +89,14 @@ pub extern "C" fn fennelrake_search(state: &[u8], bytes: &[u8], answer: &mut [u8
     if answer.len() < SEARCH_ANSWER {
         return 12;
     }
-    let searched = engine::search(state, bytes);
-    if searched.number != 0 {
-        return searched.number;
+    match engine::search(state, bytes) {
+        Ok(searched) => {
+            memory::put_big(answer, SEARCH_READ, searched.read);
+            put_list(&mut answer[..LIST_ANSWER], searched.list);
+            0
+        }
+        Err(refusal) => u32::from(refusal),
     }
-    let list = searched.list;
-    let serials = list.serials;
-    let scores = list.scores;
-    memory::put_big(answer, SEARCH_READ, searched.read);
-    put_list(
-        &mut answer[..LIST_ANSWER],
-        list.count as u32,
-        serials,
-        scores,
-    );
-    searched.number
 }
 
 // The answer: quotient and remainder, four bytes each.
@@ -120,20 +112,31 @@ pub extern "C" fn fennelrake_closeness(
     if answer.len() < CLOSENESS_ANSWER {
         return 12;
     }
-    let compared = engine::closeness(state, serial, number);
-    if compared.number != 0 {
-        return compared.number;
+    match engine::closeness(state, serial, number) {
+        Ok(close) => {
+            memory::put_big(answer, 0, close.quotient);
+            memory::put_big(answer, 1, close.remainder);
+            0
+        }
+        Err(refusal) => u32::from(refusal),
     }
-    memory::put_big(answer, 0, compared.quotient);
-    memory::put_big(answer, 1, compared.remainder);
-    compared.number
+}
+
+// A refusal's number times 2 to the 32.
+fn high(refusal: Refusal) -> u64
+    ensures { result ≡ number_of refusal * 4294967296 }
+{
+    u64::from(u32::from(refusal)) * 4294967296
 }
 
 // Number times 2 to the 32, and how many were found.
-fn told(found: Found) -> u64
-    ensures { heard_found result ≡ found }
+fn told(found: Result<u32, Refusal>) -> u64
+    ensures { heard_found result ≡ told_count found }
 {
-    found.number as u64 * 4294967296 + found.count as u64
+    match found {
+        Ok(count) => u64::from(count),
+        Err(refusal) => high(refusal),
+    }
 }
 
 // The postings of a term, into out: serial and impact of each, four bytes each. Number times 2 to the 32, and how many there are.
@@ -153,33 +156,18 @@ pub extern "C" fn fennelrake_screen(state: &[u8], lines: u32, out: &mut [u8]) ->
     told(engine::screen(state, lines, out))
 }
 
-fn wide(x: u8) -> u16
-    ensures { (result ≡ x) × (result < 256) }
-{
-    x as u16
-}
-
 // The first terms, two bytes each.
 fn first_terms(bytes: &[u8], count: usize) -> [u16; MOST_PAIRS]
     requires { (count ≤ most_pairs) × (2 * count ≤ length bytes.now) }
     ensures { take count result ≡ take count (terms_of bytes.now) }
 {
     let mut terms = [0u16; MOST_PAIRS];
-    let mut i: usize = 0;
-    while i < count {
-        let at = 2 * i;
-        let high = wide(bytes[at]);
-        let low = wide(bytes[at + 1]);
+    for i in 0..count {
+        let high = u16::from(bytes[2 * i]);
+        let low = u16::from(bytes[2 * i + 1]);
         terms[i] = high * 256 + low;
-        i += 1;
     }
     terms
-}
-
-fn at_most_pairs(n: usize) -> usize
-    ensures { (result ≤ most_pairs) × (result ≤ n) × (result < most_pairs → result ≡ n) }
-{
-    if n < MOST_PAIRS { n } else { MOST_PAIRS }
 }
 
 // The frame with these fields, into out: number times 2 to the 32, and length. Terms are two bytes each, amounts one. No frame has more than
@@ -199,9 +187,9 @@ pub extern "C" fn fennelrake_write(
 ) -> u64
     ensures { WritePost (from_fields (fields kind time serial urgency number k pairs (terms_of terms.now) amounts.now)) out.old out.new (heard_writing result) }
 {
-    let count = at_most_pairs(terms.len() / 2);
+    let count = (terms.len() / 2).min(MOST_PAIRS);
     let first = first_terms(terms, count);
-    let written = frame::write(
+    match frame::write(
         out,
         kind,
         time,
@@ -212,6 +200,8 @@ pub extern "C" fn fennelrake_write(
         pairs as usize,
         &first[..count],
         amounts,
-    );
-    written.number as u64 * 4294967296 + written.length as u64
+    ) {
+        Ok(length) => length as u64,
+        Err(refusal) => high(refusal),
+    }
 }

@@ -5,9 +5,9 @@ use borrow.Author.Rules.{rules}
 use Rattle.fennelrake.proofs.AnswerLaws.{closeness_accepted}
 use Rattle.fennelrake.proofs.fennelrake_closeness.Goals as goal
 
-pub returns : goal.returns
-returns c = (
-  closeness_accepted c.closeness-compared.result (omega arith) (search rules) (search rules) c.put_big.ensures c.put_big-2.ensures
-      (omega arith) c.closeness-compared.ensures.0,
+pub returns-in-Ok : goal.returns-in-Ok
+returns-in-Ok c = (
+  closeness_accepted c.in-Ok.close (omega arith) (search rules) (search rules) c.put_big.ensures c.put_big-in-Ok.ensures
+      (rw c.in-Ok.is at c.closeness.ensures.0),
   refl,
 )
