@@ -29,7 +29,7 @@ use Rattle.window.specs.Slot.{Slot, slot, stored, silenced, held, ring, seek, ho
 use Rattle.window.specs.Cursor.{Loaded}
 use Rattle.window.proofs.WalkLaws.{seek_cases, found_in}
 use Rattle.window.proofs.LogLaws.{holds_serial_lem, held_serial}
-use Rattle.candidates.specs.declared.Query.{Query}
+use Rattle.candidates.specs.declared.query.Query.{Query}
 use Rattle.candidates.proofs.MatchLaws.{in_ring_lem}
 use Rattle.query.specs.Record.{HoldsAt}
 use Rattle.query.specs.Post.{LoadedQuery}

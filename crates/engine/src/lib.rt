@@ -15,6 +15,7 @@ ghost use Rattle.engine.specs.Post.{StartPost, FramePost, ListPost, PostingsPost
 ghost use Rattle.window.specs.Slot.{slot};
 ghost use Rattle.window.specs.Table.{term_limit, RaisedBy};
 ghost use Rattle.window.specs.Cursor.{Moved};
+ghost use Rattle.query.specs.Move.{in_slots, arrived_slot, cancelled_slot, cancelled_serial};
 ghost use Rattle.query.specs.Post.{arriving};
 ghost use Rattle.engine.specs.Inner.{Silenced, Passed, Followed, Departed, Joined, Did, Ticked, Registration};
 
@@ -22,9 +23,9 @@ use candidates::Query;
 use closeness::Closeness;
 use frame::Kind;
 use paper::{MOST_PAIRS, Refusal, State, layout};
-use query::Move;
+use query::{Arrived, Cancelled, Move};
 use rank::Lines;
-use window::Cursor;
+use window::{Cursor, Span};
 
 // How many query numbers and how many terms there are, beside numbers and terms of 32 bits.
 const NUMBERS: u32 = paper::NUMBERS as u32;
@@ -75,30 +76,44 @@ pub fn start(state: &mut [u8], capacity: u32, life: u32) -> Result<(), Refusal>
     Ok(())
 }
 
-// A table raised to the impacts of the message in slot j, where that is one.
+// A table raised to the impacts of the message in slot j.
 fn raise_one(state: &State, j: usize, table: &mut [u16])
-    requires { length table.old ≡ term_limit }
+    requires { (j < slots) × (length table.old ≡ term_limit) }
     ensures { (length table.new ≡ term_limit) × RaisedBy (map (slot (words state.now)) (arriving j)) table.old table.new }
 {
-    if j < layout::SLOTS {
-        window::raise_all(state, j, 1, table);
+    window::raise_all(state, Span { first: j, count: 1 }, table);
+}
+
+// A table raised to the impacts of the message that arrived, where one did.
+fn raise_newest(state: &State, newest: Option<Arrived>, table: &mut [u16])
+    requires { length table.old ≡ term_limit }
+    ensures { (length table.new ≡ term_limit) × RaisedBy (map (slot (words state.now)) (arriving (arrived_slot newest))) table.old table.new }
+{
+    match newest {
+        Some(newest) => raise_one(state, newest.slot, table),
+        None => {}
     }
 }
 
-// The message in slot j is cancelled, where that is one.
-fn silence(state: &mut State, j: usize)
-    ensures { Silenced j (words state.old) (words state.new) }
+// A table raised to the impacts of the message that is cancelled, where one is; it is silent from then on.
+fn silence(state: &mut State, cancelled: Option<Cancelled>, table: &mut [u16])
+    requires { length table.old ≡ term_limit }
+    ensures raised { (length table.new ≡ term_limit) × RaisedBy (map (slot (words state.old)) (arriving (cancelled_slot cancelled))) table.old table.new }
+    ensures silenced { Silenced (cancelled_slot cancelled) (words state.old) (words state.new) }
 {
-    if j < layout::SLOTS {
-        window::cancel(state, j);
+    match cancelled {
+        Some(cancelled) => {
+            raise_one(state, cancelled.slot, table);
+            window::cancel(state, cancelled.slot);
+        }
+        None => {}
     }
 }
 
 // Every registered query is updated where the frame reaches it; the marks of those.
 fn pass(state: &mut State, moved: Move, coming: &[u16], going: &[u16]) -> u32
-    requires gone_lt_slots { (moved.gone < slots) × (moved.first < slots) × (moved.count < slots) }
-    requires coming_len { (length coming.now ≡ term_limit) × (length going.now ≡ term_limit) }
-    ensures { Passed numbers (words state.old) moved coming.now going.now result (words state.new) }
+    requires { (length coming.now ≡ term_limit) × (length going.now ≡ term_limit) }
+    ensures { Passed numbers (words state.old) (in_slots moved) coming.now going.now result (words state.new) }
 {
     let mut marks: u32 = 0;
     for q in 0..paper::NUMBERS {
@@ -113,15 +128,13 @@ fn pass(state: &mut State, moved: Move, coming: &[u16], going: &[u16]) -> u32
 
 // The queries follow a move. What comes and what goes is looked up in tables, made once for all, while a cancelled message still has what it had.
 fn update_all(state: &mut State, moved: Move) -> u32
-    requires gone_lt_slots { (moved.gone < slots) × (moved.first < slots) × (moved.count < slots) }
-    ensures { Followed (words state.old) moved result (words state.new) }
+    ensures { Followed (words state.old) (in_slots moved) result (words state.new) }
 {
     let mut coming = [0u16; paper::TERMS];
     let mut going = [0u16; paper::TERMS];
-    raise_one(state, moved.newest, &mut coming);
-    window::raise_all(state, moved.gone, moved.departed, &mut going);
-    raise_one(state, moved.cancelled, &mut going);
-    silence(state, moved.cancelled);
+    raise_newest(state, moved.newest, &mut coming);
+    window::raise_all(state, moved.gone, &mut going);
+    silence(state, moved.cancelled, &mut going);
     pass(state, moved, &coming, &going)
 }
 
@@ -146,27 +159,30 @@ fn join(
 ) -> Reply
     requires in_bounds { (urgency ≤ level vital) × (m ≤ most_pairs) }
     requires by_index { (i : ℕ) → i < m → (get_or terms i 0 < 2 ^ term_width) × (get_or counts i 0 < 2 ^ count_width) }
-    requires oldest_lt_slots { (before.oldest < slots) × (before.count < slots) × (after.count < most_messages)
-        × Moved before.oldest before.count after.oldest after.count }
+    requires in_window { (before.messages.count < slots) × (after.messages.count < most_messages)
+        × Moved before.messages.first before.messages.count after.messages.first after.messages.count }
     ensures { Joined (arrival time serial (urgency_of urgency) (side_by_side m terms counts))
-        before.oldest before.count after.oldest after.count (words state.old) result (words state.new) }
+        before.messages.first before.messages.count after.messages.first after.messages.count (words state.old) result (words state.new) }
 {
-    let gone = before.oldest;
-    let oldest = after.oldest;
-    let count = after.count;
-    let leaving = before.count - count;
-    let departures = window::in_force(state, gone, leaving);
-    let newest = (oldest + count) % layout::SLOTS;
-    window::put_message(state, newest, time, serial, urgency, m, terms, counts);
-    window::put_cursor(state, time, oldest, count + 1);
+    let stay = after.messages;
+    let gone = Span {
+        first: before.messages.first,
+        count: before.messages.count - stay.count,
+    };
+    let departures = window::in_force(state, gone);
+    let slot = (stay.first + stay.count) % layout::SLOTS;
+    window::put_message(state, slot, time, serial, urgency, m, terms, counts);
+    let messages = Span {
+        first: stay.first,
+        count: stay.count + 1,
+    };
+    let clock = time;
+    window::put_cursor(state, Cursor { clock, messages });
     let moved = Move {
         gone,
-        departed: leaving,
-        first: oldest,
-        count: count + 1,
-        newest,
-        cancelled: layout::SLOTS,
-        serial: 0,
+        window: messages,
+        newest: Some(Arrived { slot }),
+        cancelled: None,
     };
     let marks = update_all(state, moved);
     Reply {
@@ -196,7 +212,7 @@ fn message(
     }
     let life = memory::get(state, layout::LIFE);
     let aged = before.advanced(state, life, time);
-    if window::has_serial(state, aged.oldest, aged.count, serial) {
+    if window::has_serial(state, aged.messages, serial) {
         return Err(Refusal::Serial);
     }
     let after = aged.roomy(capacity_of(state));
@@ -205,25 +221,23 @@ fn message(
     ))
 }
 
-// The window without its oldest messages, and without that of slot `cancelled`, which has this serial, where that is one; the departures of the oldest.
-fn depart(state: &mut State, before: Cursor, after: Cursor, cancelled: usize, serial: u32) -> Reply
-    requires oldest_lt_slots { (before.oldest < slots) × (before.count < slots) × Moved before.oldest before.count after.oldest after.count }
-    ensures { Departed after.clock cancelled serial before.oldest before.count after.oldest after.count (words state.old) result (words state.new) }
+// The window without its oldest messages, and without the cancelled one where there is one; the departures of the oldest.
+fn depart(state: &mut State, before: Cursor, after: Cursor, cancelled: Option<Cancelled>) -> Reply
+    requires { (before.messages.count < slots) × Moved before.messages.first before.messages.count after.messages.first after.messages.count }
+    ensures { Departed after.clock (cancelled_slot cancelled) (cancelled_serial cancelled)
+        before.messages.first before.messages.count after.messages.first after.messages.count (words state.old) result (words state.new) }
 {
-    let gone = before.oldest;
-    let oldest = after.oldest;
-    let count = after.count;
-    let leaving = before.count - count;
-    let departures = window::in_force(state, gone, leaving);
-    window::put_cursor(state, after.clock, oldest, count);
+    let gone = Span {
+        first: before.messages.first,
+        count: before.messages.count - after.messages.count,
+    };
+    let departures = window::in_force(state, gone);
+    window::put_cursor(state, after);
     let moved = Move {
         gone,
-        departed: leaving,
-        first: oldest,
-        count,
-        newest: layout::SLOTS,
+        window: after.messages,
+        newest: None,
         cancelled,
-        serial,
     };
     let marks = update_all(state, moved);
     Reply {
@@ -239,7 +253,7 @@ fn advance(state: &mut State, time: u32) -> Reply
     let before = Cursor::load(state);
     let life = memory::get(state, layout::LIFE);
     let after = before.advanced(state, life, time);
-    depart(state, before, after, layout::SLOTS, 0)
+    depart(state, before, after, None)
 }
 
 fn tick(state: &mut State, time: u32) -> Result<Reply, Refusal>
@@ -251,18 +265,10 @@ fn tick(state: &mut State, time: u32) -> Result<Reply, Refusal>
     Ok(advance(state, time))
 }
 
-fn register(
-    state: &mut State,
-    time: u32,
-    number: usize,
-    k: u32,
-    n: usize,
-    terms: [u32; 8],
-    weights: [u32; 8],
-) -> Result<Reply, Refusal>
-    requires number_lt_numbers { (number < numbers) × (1 ≤ k) × (k ≤ most_listed) × (1 ≤ n) × (n ≤ most_terms) }
-    requires by_index { (i : ℕ) → i < n → (get_or terms i 0 < 2 ^ term_width) × (get_or weights i 0 < 2 ^ weight_width) }
-    ensures { Did (Frame.register time number k (side_by_side n terms weights)) state.old result state.new }
+fn register(state: &mut State, time: u32, number: usize, query: Query) -> Result<Reply, Refusal>
+    requires in_range { (number < numbers) × (1 ≤ query.k) × (query.k ≤ most_listed) × (1 ≤ query.n) }
+    requires pairs_fit { (i : ℕ) → i < query.n → (get_or query.terms i 0 < 2 ^ term_width) × (get_or query.weights i 0 < 2 ^ weight_width) }
+    ensures { Did (Frame.register time number query.k (side_by_side query.n query.terms query.weights)) state.old result state.new }
 {
     if time < memory::get(state, layout::CLOCK) {
         return Err(Refusal::Time);
@@ -271,10 +277,7 @@ fn register(
         return Err(Refusal::InUse);
     }
     let reply = advance(state, time);
-    let cursor = Cursor::load(state);
-    let oldest = cursor.oldest;
-    let count = cursor.count;
-    query::register(state, number, k, n, terms, weights, oldest, count);
+    query::register(state, number, query, Cursor::load(state).messages);
     Ok(Reply {
         marks: with_mark(reply.marks, number),
         departures: reply.departures,
@@ -309,36 +312,34 @@ fn cancel(state: &mut State, time: u32, serial: u32) -> Result<Reply, Refusal>
     }
     let life = memory::get(state, layout::LIFE);
     let after = before.advanced(state, life, time);
-    let Some(cancelled) = window::slot_of(state, after.oldest, after.count, serial) else {
+    let Some(slot) = window::slot_of(state, after.messages, serial) else {
         return Err(Refusal::NotInForce);
     };
-    let reply = depart(state, before, after, cancelled, serial);
+    let cancelled = Cancelled { slot, serial };
+    let reply = depart(state, before, after, Some(cancelled));
     Ok(Reply {
         marks: reply.marks,
         departures: reply.departures + 1,
     })
 }
 
-// The terms and weights of a query.
-#[derive(Clone, Copy)]
-struct Weighted {
-    terms: [u32; 8],
-    weights: [u32; 8],
-}
-
-// The first eight of a frame's pairs: a query has no more.
-fn first_eight(terms: [u16; MOST_PAIRS], weights: [u8; MOST_PAIRS]) -> Weighted
-    ensures { (result.terms ≡ take 8 terms) × (result.weights ≡ take 8 weights) }
+// A query of a frame's first n pairs: it has no more than eight.
+fn query_of(k: u32, n: usize, terms: [u16; MOST_PAIRS], weights: [u8; MOST_PAIRS]) -> Query
+    requires { n ≤ most_terms }
+    ensures { (result.k ≡ k) × (result.n ≡ n) × (result.terms ≡ take 8 terms) × (result.weights ≡ take 8 weights) }
 {
-    let mut few = Weighted {
-        terms: [0u32; 8],
-        weights: [0u32; 8],
-    };
+    let mut few = [0u32; 8];
+    let mut weighted = [0u32; 8];
     for i in 0..8 {
-        few.terms[i] = u32::from(terms[i]);
-        few.weights[i] = u32::from(weights[i]);
+        few[i] = u32::from(terms[i]);
+        weighted[i] = u32::from(weights[i]);
     }
-    few
+    Query {
+        k: k as usize,
+        n,
+        terms: few,
+        weights: weighted,
+    }
 }
 
 pub fn frame(state: &mut [u8], bytes: &[u8]) -> Result<Reply, Refusal>
@@ -365,8 +366,8 @@ pub fn frame(state: &mut [u8], bytes: &[u8]) -> Result<Reply, Refusal>
             k,
             terms: n,
         } => {
-            let few = first_eight(terms, amounts);
-            register(state, time, number as usize, k, n, few.terms, few.weights)
+            let query = query_of(k, n, terms, amounts);
+            register(state, time, number as usize, query)
         }
         Kind::Unregister { time, number } => unregister(state, time, number as usize),
         Kind::Cancel { time, serial } => cancel(state, time, serial),
@@ -404,14 +405,12 @@ pub fn postings(state: &[u8], term: u32, out: &mut [u8]) -> Result<u32, Refusal>
     if TERMS <= term {
         return Err(Refusal::Value);
     }
-    let cursor = Cursor::load(state);
-    let oldest = cursor.oldest;
-    let count = cursor.count;
-    let found = posting::having(state, oldest, count, term);
+    let messages = Cursor::load(state).messages;
+    let found = posting::having(state, messages, term);
     if out.len() / 8 < found {
         return Err(Refusal::Memory);
     }
-    posting::write(state, oldest, count, term, out);
+    posting::write(state, messages, term, out);
     Ok(found as u32)
 }
 
@@ -423,17 +422,8 @@ pub fn search(state: &[u8], bytes: &[u8]) -> Result<Searched, Refusal>
         return Err(Refusal::Memory);
     };
     let asked = frame::read_asked(bytes)?;
-    let few = first_eight(asked.terms, asked.weights);
-    let terms = few.terms;
-    let weights = few.weights;
-    let query = Query {
-        k: asked.k as usize,
-        n: asked.n,
-        terms,
-        weights,
-    };
-    let cursor = Cursor::load(state);
-    let outcome = search::search(state, cursor.oldest, cursor.count, query);
+    let query = query_of(asked.k, asked.n, asked.terms, asked.weights);
+    let outcome = search::search(state, Cursor::load(state).messages, query);
     Ok(Searched {
         list: Lines::of(outcome.list),
         read: outcome.read,
@@ -452,7 +442,7 @@ pub fn closeness(state: &[u8], serial: u32, number: u32) -> Result<Closeness, Re
         return Err(Refusal::NotInForce);
     }
     let cursor = Cursor::load(state);
-    let Some(j) = window::slot_of(state, cursor.oldest, cursor.count, serial) else {
+    let Some(j) = window::slot_of(state, cursor.messages, serial) else {
         return Err(Refusal::NotInForce);
     };
     let q = registered(state, number)?;

@@ -20,7 +20,7 @@ returns-in_err-q c =
     let lent = c.in-Some.ensures.cases in
     let free = rw lent.same at c.in_err-q.ensures in (
       rw (err_is c.from_residual.result c.in_err-q.field-0.0 c.from_residual.ensures.1, free.0)
-      (closeness_unused _ _ _ lent.long (omega arith) (rw lent.same at c.load-cursor.ensures) (rw lent.same at c.in-Some-slot_of.ensures) free.1 refl),
+          (closeness_unused _ _ _ lent.long (omega arith) (rw lent.same at c.load-cursor.ensures) (rw lent.same at c.in-Some-slot_of.ensures) free.1 refl),
       refl,
     )
 

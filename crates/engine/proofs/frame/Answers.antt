@@ -22,11 +22,15 @@ message-requires c =
     let m = read_message _ _ c.in_ok-parsed.ensures _ _ _ _ _ c.in-Message.is in
     record { in_bounds = m.1.0; le_m = (m.0.least, m.0.most); by_index = m.0.fit }
 
+pub query_of-query-requires : goal.query_of-query-requires
+query_of-query-requires c = (read_register _ _ c.in_ok-parsed.ensures _ _ _ _ c.in-Register.is).4
+
 pub register-requires : goal.register-requires
 register-requires c =
     let m = read_register _ _ c.in_ok-parsed.ensures _ _ _ _ c.in-Register.is in
-    let few = read_eight c.first_eight-few.ensures.0 c.first_eight-few.ensures.1 m.0 m.4 in
-    record { number_lt_numbers = (m.1, m.2, m.3, few.least, m.4); by_index = few.fit }
+    let q = c.query_of-query.ensures in
+    let few = read_eight q.2 q.3 m.0 m.4 in
+    record { in_range = rw (q.0, q.1) (m.1, m.2, m.3, few.least); pairs_fit = rw q.1 few.fit }
 
 pub unregister-requires : goal.unregister-requires
 unregister-requires c = record { number_lt_numbers = read_unregister _ _ c.in_ok-parsed.ensures _ _ c.in-Unregister.is }
@@ -48,9 +52,10 @@ pub returns-in-Register : goal.returns-in-Register
 returns-in-Register c =
     let lent = c.in-Some.ensures.cases in
     let m = read_register _ _ c.in_ok-parsed.ensures _ _ _ _ c.in-Register.is in
-    let few = read_eight c.first_eight-few.ensures.0 c.first_eight-few.ensures.1 m.0 m.4 in
+    let q = c.query_of-query.ensures in
+    let few = read_eight q.2 q.3 m.0 m.4 in
     done _ _ _ _ lent.long (search rules) few.is (lent_bytes (goal.at.returns-in-Register c).After-as_mut_array) (λ i. (c.type_inv.state i).fits) _
-    (rw lent.same at c.register.ensures)
+    (rw (lent.same, q.0, q.1) at c.register.ensures)
 
 pub returns-in-Unregister : goal.returns-in-Unregister
 returns-in-Unregister c =

@@ -9,10 +9,10 @@ returns-then-term-ge-TERMS c = postings_no_term _ _ _ c.in-Some.ensures.cases.lo
 pub returns-then-out-found : goal.returns-then-out-found
 returns-then-out-found c =
     let lent = c.in-Some.ensures.cases in
-    postings_no_room _ _ _ lent.long (omega arith) (rw lent.same at c.load-cursor.ensures) (rw lent.same at c.having-found.ensures) (omega arith)
+    postings_no_room _ _ _ lent.long (omega arith) (rw lent.same at c.load.ensures) (rw lent.same at c.having-found.ensures) (omega arith)
 
 pub returns : goal.returns
 returns c =
     let lent = c.in-Some.ensures.cases in
-    postings_right _ _ _ lent.long (omega arith) (rw lent.same at c.load-cursor.ensures) (rw lent.same at c.having-found.ensures) (omega arith)
+    postings_right _ _ _ lent.long (omega arith) (rw lent.same at c.load.ensures) (rw lent.same at c.having-found.ensures) (omega arith)
     (rw lent.same at c.write.ensures)

@@ -1,4 +1,5 @@
 -- `search` meets its contract. Assumes nothing.
+use native.Mathlib.Omega.{arith}
 use mathlib.Core.Path.{refl}
 use Rattle.core.proofs.result.Match.{err_is}
 use Rattle.frame.proofs.AskLaws.{Question, question}
@@ -11,19 +12,21 @@ returns-in_default c = (search_not_lent _ _ c.in_default.ensures.cases, refl)
 pub returns-in_err-asked : goal.returns-in_err-asked
 returns-in_err-asked c = (
   rw (err_is c.from_residual.result c.in_err-asked.field-0.0 c.from_residual.ensures.1)
-  (search_refused _ _ _ c.in-Some.ensures.cases.long c.in_err-asked.ensures),
+      (search_refused _ _ _ c.in-Some.ensures.cases.long c.in_err-asked.ensures),
   refl,
 )
 
+pub query_of-query-requires : goal.query_of-query-requires
+query_of-query-requires c = let asks = question _ _ c.in_ok-asked.ensures in omega (arith, asks.n, asks.valid.terms.at_most)
+
 pub search-outcome-requires : goal.search-outcome-requires
 search-outcome-requires c =
-    let few = c.first_eight-few.ensures in
-    let asks = question _ _ c.in_ok-asked.ensures in
-    (c.load-cursor.ensures.oldest_below, c.load-cursor.ensures.count_below, asked_fit asks few.0 few.1)
+    let q = c.query_of-query.ensures in
+    (c.load.ensures.count_below, asked_fit (question _ _ c.in_ok-asked.ensures) q.0 q.1 q.2 q.3)
 
 pub returns : goal.returns
 returns c =
     let lent = c.in-Some.ensures.cases in
-    let few = c.first_eight-few.ensures in
+    let q = c.query_of-query.ensures in
     let asks = question _ _ c.in_ok-asked.ensures in
-    (search_right asks few.0 few.1 _ lent.long (rw lent.same at c.load-cursor.ensures) (rw lent.same at c.search-outcome.ensures) c.of.ensures, refl)
+    (search_right asks q.0 q.1 q.2 q.3 _ lent.long (rw lent.same at c.load.ensures) (rw lent.same at c.search-outcome.ensures) c.of.ensures, refl)
