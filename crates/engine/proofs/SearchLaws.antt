@@ -68,41 +68,41 @@ module _ (s bytes : List ℕ) where
 -- what is looked through, and what a search of it finds
 module _ {bytes : List ℕ} {a : Asked} (asks : Question bytes a) (s : List ℕ) (long : length s ≡ state_length) {clock o n : ℕ}
     (l : Loaded (words s) clock o n)
-    where
-  over : (log : Log) → Represents log (words s) → Over (words s) o n (in_force_now log)
-  over log r = record {
-    shows = rw (l.oldest_is r.oldest_below, l.count_is r.count_below) (in_force_shows log (words s) r);
-    valid = in_force_valid log r.sound;
-  }
+  where
+    over : (log : Log) → Represents log (words s) → Over (words s) o n (in_force_now log)
+    over log r = record {
+      shows = rw (l.oldest_is r.oldest_below, l.count_is r.count_below) (in_force_shows log (words s) r);
+      valid = in_force_valid log r.sound;
+    }
 
-  found_query : (log : Log) → found 0 log bytes (length s) 0 ≡ Search.search asks.query (in_force_now log)
-  unfolding found seen
-  found_query log = rw (judged s bytes long, asks.free, asks.is)
+    found_query : (log : Log) → found 0 log bytes (length s) 0 ≡ Search.search asks.query (in_force_now log)
+    unfolding found seen
+    found_query log = rw (judged s bytes long, asks.free, asks.is)
 
 -- a query that is made of what is asked for
 module _ {bytes : List ℕ} {a : Asked} {q : Query} (asks : Question bytes a)
     (ek : q.k ≡ a.k) (en : q.n ≡ a.n) (et : q.terms ≡ take 8 a.terms) (eu : q.weights ≡ take 8 a.weights)
-    where
-  is_asked : Is q asks.query
-  is_asked =
-      let few : q.n ≤ 8 = omega (arith, en, asks.n, asks.valid.terms.at_most) in
-      is_by asks.valid (ek ∙ asks.k) (en ∙ asks.n)
-      (rw et (omega (arith, few, length-take-le 8 a.terms (omega (arith, asks.terms)))))
-      (rw eu (omega (arith, few, length-take-le 8 a.weights (omega (arith, asks.weights)))))
-      (rw (et, eu) (side_take q.n 8 a.terms a.weights few ∙ rw en asks.pairs))
+  where
+    is_asked : Is q asks.query
+    is_asked =
+        let few : q.n ≤ 8 = omega (arith, en, asks.n, asks.valid.terms.at_most) in
+        is_by asks.valid (ek ∙ asks.k) (en ∙ asks.n)
+        (rw et (omega (arith, few, length-take-le 8 a.terms (omega (arith, asks.terms)))))
+        (rw eu (omega (arith, few, length-take-le 8 a.weights (omega (arith, asks.weights)))))
+        (rw (et, eu) (side_take q.n 8 a.terms a.weights few ∙ rw en asks.pairs))
 
-  pub asked_fit : Fit q
-  asked_fit = fit_by is_asked asks.valid
+    pub asked_fit : Fit q
+    asked_fit = fit_by is_asked asks.valid
 
-  module _ (s : List ℕ) (long : length s ≡ state_length) {clock o n : ℕ} (l : Loaded (words s) clock o n) where
-    pub search_right : {x : Outcome} {shown-lines : Lines} → WindowSearch (words s) o n q x → Shows x.list shown-lines
-        → SearchPost s bytes (told_search (Ok (record { list = shown-lines; read = x.read })))
-    search_right {x} {shown-lines} w shows = record {
-      number = sym (judged s bytes long ∙ asks.free);
-      most = omega (arith, w.most, shows.count);
-      tidy = shows.tidy w.tidy;
-      refused = λ not_None. absurd (not_None refl);
-      right = λ log r.
-          let f = w.right (in_force_now log) asks.query (over asks s long l log r) r.sound.distinct asks.valid is_asked in
-          rw (found_query asks s long l log) (shows.list ∙ ap (map shown) f.0 ∙ shown_keyed (Search.search asks.query (in_force_now log)).list, f.1);
-    }
+    module _ (s : List ℕ) (long : length s ≡ state_length) {clock o n : ℕ} (l : Loaded (words s) clock o n) where
+      pub search_right : {x : Outcome} {shown-lines : Lines} → WindowSearch (words s) o n q x → Shows x.list shown-lines
+          → SearchPost s bytes (told_search (Ok (record { list = shown-lines; read = x.read })))
+      search_right {x} {shown-lines} w shows = record {
+        number = sym (judged s bytes long ∙ asks.free);
+        most = omega (arith, w.most, shows.count);
+        tidy = shows.tidy w.tidy;
+        refused = λ not_None. absurd (not_None refl);
+        right = λ log r.
+            let f = w.right (in_force_now log) asks.query (over asks s long l log r) r.sound.distinct asks.valid is_asked in
+            rw (found_query asks s long l log) (shows.list ∙ ap (map shown) f.0 ∙ shown_keyed (Search.search asks.query (in_force_now log)).list, f.1);
+      }
