@@ -71,10 +71,6 @@ module _ {w : List ℕ} {i : ℕ} {qs out₀ out : List ℕ} {j : ℕ} (room : s
         lines = lines;
       }
 
-pub writing_all : {w : List ℕ} {i : ℕ} {qs out₀ out : List ℕ} {j : ℕ} → length qs ≤ j → WritingRound w i qs out₀ out j
-    → out ≡ lines_into (map (line_after w i) qs) out₀
-writing_all {w} {i} {qs} {out₀} {j = j} h p = p.lines ∙ ap (λ (l : List ℕ). lines_into (map (line_after w i) l) out₀) (take_all j qs h)
-
 -- ---- round after round
 
 -- an element of a list
