@@ -5,6 +5,7 @@ use mathlib.Core.Bool.{false}
 use mathlib.Core.List.{[]}
 use lib.ListN.{get_or, replicate}
 use lib.Dec.{eqb}
+use borrow.Author.Tests.{eqb-false}
 use Rattle.paper.specs.declared.refusal.Refusal.{Refusal}
 use Rattle.paper.specs.declared.refusal.Refusal.TheVariants.{Short, Kind, Length, Fill, Value, Order, Time, Serial, InUse, NotInUse, Start, Memory, NotInForce, Urgency}
 use Rattle.paper.specs.Frame.{most_listed}
@@ -28,6 +29,9 @@ not_0 Start = refl
 not_0 Memory = refl
 not_0 NotInForce = refl
 not_0 Urgency = refl
+
+pub numbered : (e : Refusal) → number_of e ≡ 0 → ⊥
+numbered e = eqb-false (number_of e) 0 (not_0 e)
 
 pub zeros_at : (n i : ℕ) → get_or {A = ℕ} (replicate n 0) i 0 ≡ 0
 zeros_at zero i = refl
