@@ -7,7 +7,8 @@ use lib.ListN.{get_or, replicate}
 use lib.Dec.{eqb}
 use borrow.Author.Tests.{eqb-false}
 use Rattle.paper.specs.declared.refusal.Refusal.{Refusal}
-use Rattle.paper.specs.declared.refusal.Refusal.TheVariants.{Short, Kind, Length, Fill, Value, Order, Time, Serial, InUse, NotInUse, Start, Memory, NotInForce, Urgency}
+use Rattle.paper.specs.declared.refusal.Refusal.TheVariants.{Short, Kind, Length, Fill, Value, Order, Time, Serial}
+use Rattle.paper.specs.declared.refusal.Refusal.TheVariants.{InUse, NotInUse, Start, Memory, NotInForce, Urgency}
 use Rattle.paper.specs.Frame.{most_listed}
 use Rattle.paper.specs.Refusal.{number_of}
 use Rattle.rank.specs.Listing.{listed, lines_of, TidyLines}
