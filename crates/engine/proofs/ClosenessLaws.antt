@@ -152,7 +152,9 @@ module _ (s : List ℕ) (serial n : ℕ) where
         there : (log : Log) → Represents log (words s) → Sought (slot (words s) j) serial (in_force_now log)
         there log r =
             ⊎_elim (λ p. absurd (omega (arith, p.0, is.0, is.1)))
-            (λ p. rw (← is.0, in_force_is log r) (sought (words s) serial small (ring o c) (filled_now log) (shows log r) (filled_valid log log.clock r.sound) p.1))
+            (λ p.
+            rw (← is.0, in_force_is log r)
+            (sought (words s) serial small (ring o c) (filled_now log) (shows log r) (filled_valid log log.clock r.sound) p.1))
             (seek_cases (words s) serial (ring o c))
 
         module _ {b : Bool} (test : registered_in (words s) n ≡ b) where

@@ -194,7 +194,8 @@ module _ {t life clock o n clock' o' n' : ℕ} {w : List ℕ} (s : ℕ) (loaded 
       ∙ ap (λ (c : Bool). cond {A = ℕ} c 0 13) (sym (serial_in_force log t s r.sound v.1 (places_loaded loaded life-is adv log r late)) ∙ e)
 
   cancel_accepted : (log : Log) (r : Represents log w) (late : log.clock ≤ t) (v : Valid (cancel t s)) (ok : judge_frame log (cancel t s) ≡ 0)
-      → {j : ℕ} → (seek w s (ring o' n') ≡ j) × (j < slots) → {went reply : Reply} {w₃ : List ℕ} → Departed clock' j s o n o' n' w went w₃ → reply.marks ≡ went.marks → reply.departures ≡ went.departures + 1
+      → {j : ℕ} → (seek w s (ring o' n') ≡ j) × (j < slots) → {went reply : Reply} {w₃ : List ℕ} → Departed clock' j s o n o' n' w went w₃
+      → reply.marks ≡ went.marks → reply.departures ≡ went.departures + 1
       → Accepted log (cancel t s) w reply w₃
   cancel_accepted log r late v ok {j} h {went} {reply} {w₃} d em ed =
       let moved = moved_loaded loaded life-is adv log r in
@@ -222,8 +223,8 @@ unknown {t = t} {s} loaded life-is adv h none =
 -- a message cancelled
 pub cancel_done : {state state' : List ℕ} {went reply : Reply} {t s life clock o n clock' o' n' j : ℕ} → Loaded (words state) clock o n
     → life ≡ get_or (words state) life_at 0 → Advanced (words state) life o n t clock' o' n' → clock ≤ t
-    → (seek (words state) s (ring o' n') ≡ j) × (j < slots) → Departed clock' j s o n o' n' (words state) went (words state') → reply.marks ≡ went.marks → reply.departures ≡ went.departures + 1
-    → Did (cancel t s) state (Ok reply) state'
+    → (seek (words state) s (ring o' n') ≡ j) × (j < slots) → Departed clock' j s o n o' n' (words state) went (words state') → reply.marks ≡ went.marks
+    → reply.departures ≡ went.departures + 1 → Did (cancel t s) state (Ok reply) state'
 cancel_done {t = t} {s} loaded life-is adv h there d em ed = record {
   unchanged = tt;
   right = λ log r v.

@@ -5,8 +5,10 @@ use mathlib.Core.Bool.{false}
 use mathlib.Core.List.{[]}
 use lib.ListN.{get_or, replicate}
 use lib.Dec.{eqb}
+use borrow.Author.Tests.{eqb-false}
 use Rattle.paper.specs.declared.refusal.Refusal.{Refusal}
-use Rattle.paper.specs.declared.refusal.Refusal.TheVariants.{Short, Kind, Length, Fill, Value, Order, Time, Serial, InUse, NotInUse, Start, Memory, NotInForce, Urgency}
+use Rattle.paper.specs.declared.refusal.Refusal.TheVariants.{Short, Kind, Length, Fill, Value, Order, Time, Serial}
+use Rattle.paper.specs.declared.refusal.Refusal.TheVariants.{InUse, NotInUse, Start, Memory, NotInForce, Urgency}
 use Rattle.paper.specs.Frame.{most_listed}
 use Rattle.paper.specs.Refusal.{number_of}
 use Rattle.rank.specs.Listing.{listed, lines_of, TidyLines}
@@ -28,6 +30,9 @@ not_0 Start = refl
 not_0 Memory = refl
 not_0 NotInForce = refl
 not_0 Urgency = refl
+
+pub numbered : (e : Refusal) → number_of e ≡ 0 → ⊥
+numbered e = eqb-false (number_of e) 0 (not_0 e)
 
 pub zeros_at : (n i : ℕ) → get_or {A = ℕ} (replicate n 0) i 0 ≡ 0
 zeros_at zero i = refl

@@ -18,7 +18,8 @@ use Rattle.engine.specs.Post.{call_of, reply_of, FramePost, ListPost, posted_int
 -- frames handed one after another, each on the memory as the one before left it, chained by the promise of `frame`
 pub data Frames : List ℕ → List (List ℕ) → List ℕ → Type 0 where
   none_left : {s : List ℕ} → Frames s [] s
-  handed : {s s' s'' : List ℕ} {bytes : List ℕ} {more : List (List ℕ)} (r : ToldReply) → FramePost s bytes r s' → Frames s' more s'' → Frames s (bytes ∷ more) s''
+  handed : {s s' s'' : List ℕ} {bytes : List ℕ} {more : List (List ℕ)} (r : ToldReply) → FramePost s bytes r s' → Frames s' more s''
+      → Frames s (bytes ∷ more) s''
 
 -- the calls that the paper log is fed
 abbrev pub calls_of : List ℕ → List (List ℕ) → List Call
@@ -61,5 +62,6 @@ pub record Demand3 (N T : ℕ) (s : List ℕ) (frames : List (List ℕ)) (s' : L
       × (out' ≡ lines_into (screen_in B (log_of N T s frames) state_length (length out)) out)
   -- "A query registered before and after the last frame is marked by it exactly when an arriving or departing message has, in one of its terms,
   -- an impact above the threshold it had there before that frame; unmarked, its thresholds, candidates and list are as they were"
-  pub last : (first : List (List ℕ)) (bytes : List ℕ) (r : ToldReply) (s₁ : List ℕ) → frames ≡ first ++ (bytes ∷ []) → Frames s first s₁ → FramePost s₁ bytes r s'
+  pub last : (first : List (List ℕ)) (bytes : List ℕ) (r : ToldReply) (s₁ : List ℕ) → frames ≡ first ++ (bytes ∷ []) → Frames s first s₁
+      → FramePost s₁ bytes r s'
       → Answered 0 (log_of N T s first) (keeping (words s₁)) (call_of s bytes) (reply_of r) (keeping (words s'))

@@ -113,11 +113,6 @@ module _ (x : Fields) where
 
 -- ---- a number and a size in one number
 
--- both are heard again
-both_heard : (number size : ℕ) → size < 4294967296
-    → (number ≡ (number * 4294967296 + size) / 4294967296) × (size ≡ (number * 4294967296 + size) % 4294967296)
-both_heard number size h = (omega arith, omega arith)
-
 -- no frame has more than 80 bytes
 pub written_most : (x : Fields) {s t : List ℕ} {w : Written} → WritePost (from_fields x) s t w → w.length ≤ 80
 unfolding total
@@ -128,12 +123,12 @@ written_most x {w = w} p = go (from_fields x) refl (eqb w.number 0) p.size
     go (refused n) e true l = omega arith
     go (accepted f) e true l = let m = encode_most f (fields_valid x f e) in omega arith
 
-pub write_heard : (x : Fields) {count : ℕ} {first s t : List ℕ} {w : Written} → first ≡ take count x.terms → count ≡ min (length x.terms) most_pairs
-    → WritePost (from_fields (with_terms x first)) s t w → WritePost (from_fields x) s t (heard_writing (w.number * 4294967296 + w.length))
-write_heard x {count} {first} {s} {t} {w} e few p =
+pub write_heard : (x : Fields) {count told : ℕ} {first s t : List ℕ} {w : Written} → first ≡ take count x.terms → count ≡ min (length x.terms) most_pairs
+    → told ≡ w.number * 4294967296 + w.length → WritePost (from_fields (with_terms x first)) s t w → WritePost (from_fields x) s t (heard_writing told)
+write_heard x {count} {told} {first} {s} {t} {w} e few is p =
     let m : w.length ≤ 80 = written_most (with_terms x first) p in
-    let e' = both_heard w.number w.length (omega arith) in
-    let same : w ≡ heard_writing (w.number * 4294967296 + w.length) = λ i. record { number = e'.0 i; length = e'.1 i } in
     let most : count ≡ min most_pairs (length x.terms) = omega arith in
+    let number : told / 4294967296 ≡ w.number = omega arith in
+    let size : told % 4294967296 ≡ w.length = omega arith in
     let cut : from_fields (with_terms x first) ≡ from_fields x = rw (e, most, take_min most_pairs x.terms) (fields_cut x) in
-    subst (λ (v : Written). WritePost (from_fields x) s t v) same (subst (λ (sh : Shape). WritePost sh s t w) cut p)
+    rw (number, size) (subst (λ (sh : Shape). WritePost sh s t w) cut p)

@@ -3,7 +3,6 @@
 
 ghost use Rattle.std.specs.Prelude.{◌≡◌, ◌∷◌, ◌++◌, ◌+◌, ◌*◌, ◌≤◌, ◌<◌, length, take};
 ghost use Rattle.paper.specs.Frame.{most_pairs, most_listed};
-ghost use Rattle.paper.specs.Refusal.{number_of};
 ghost use Rattle.paper.specs.Write.{from_fields};
 ghost use Rattle.memory.specs.Words.{big_words};
 ghost use Rattle.frame.specs.Write.{fields, WritePost};
@@ -122,20 +121,13 @@ pub extern "C" fn fennelrake_closeness(
     }
 }
 
-// A refusal's number times 2 to the 32.
-fn high(refusal: Refusal) -> u64
-    ensures { result ≡ number_of refusal * 4294967296 }
-{
-    u64::from(u32::from(refusal)) * 4294967296
-}
-
 // Number times 2 to the 32, and how many were found.
 fn told(found: Result<u32, Refusal>) -> u64
     ensures { heard_found result ≡ told_count found }
 {
     match found {
         Ok(count) => u64::from(count),
-        Err(refusal) => high(refusal),
+        Err(refusal) => u64::from(u32::from(refusal)) * 4294967296,
     }
 }
 
@@ -202,6 +194,6 @@ pub extern "C" fn fennelrake_write(
         amounts,
     ) {
         Ok(length) => length as u64,
-        Err(refusal) => high(refusal),
+        Err(refusal) => told(Err(refusal)),
     }
 }

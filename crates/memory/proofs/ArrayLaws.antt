@@ -23,9 +23,6 @@ pub record Loading (m i n : ℕ) (s a : List ℕ) : Type 0 where
   pub wide : length a ≡ m
   pub same : take n a ≡ take n (drop i (words s))
 
-pub loading_none : {m i n : ℕ} {s a : List ℕ} → n ≡ 0 → length a ≡ m → Loading m i n s a
-loading_none z l = rw z (record { bound = omega arith; wide = l; same = refl })
-
 pub loading_more : {m i n v : ℕ} {s a : List ℕ} → 4 * (i + m) ≤ length s → n < m → v ≡ get_or (words s) (i + n) 0 → Loading m i n s a
     → Loading m i (n + 1) s (set a n v)
 loading_more {m} {i} {n} {v} {s} {a} h k e p = record {
@@ -35,9 +32,6 @@ loading_more {m} {i} {n} {v} {s} {a} h k e p = record {
       let w = words_length s in
       rw (e, ← get_or-drop i (words s) n 0) (copy_more a (drop i (words s)) n (omega arith) (simp length-drop (omega arith)) p.same);
 }
-
-pub loading_all : {m i n : ℕ} {s a : List ℕ} → m ≤ n → Loading m i n s a → a ≡ take m (drop i (words s))
-loading_all {m} {i} {n} {s} {a} h p = let e : n ≡ m = omega arith in rw (← take_all n a (omega arith), p.same, e) refl
 
 -- n of the m words a stand in s from index i on, and s is s₀ elsewhere; W says what the words of bytes are
 pub record Storing (W : List ℕ → List ℕ) (m i n : ℕ) (a s₀ s : List ℕ) : Type 0 where

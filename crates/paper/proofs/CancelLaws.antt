@@ -44,7 +44,8 @@ module _ (s : ℕ) where
 
 -- ---- one that has it, where no two share a serial
 
-distinct_parts : (xa : List Message) (c : Message) (xb : List Message) → Distinct (xa ++ (c ∷ xb)) → (has_serial c.serial xa ≡ false) × (has_serial c.serial xb ≡ false)
+distinct_parts : (xa : List Message) (c : Message) (xb : List Message) → Distinct (xa ++ (c ∷ xb))
+    → (has_serial c.serial xa ≡ false) × (has_serial c.serial xb ≡ false)
 unfolding has_serial
 distinct_parts [] c xb d = (refl, d.0)
 distinct_parts (x ∷ xa) c xb d =
@@ -81,7 +82,8 @@ withdrawal log t s sound late fa c fb parts on has = record {
         ∙ ap (λ (b : Bool). xa ++ cond (not b) (c ∷ xb) xb) on
 
     apart : (has_serial s xa ≡ false) × (has_serial s xb ≡ false)
-    apart = subst (λ (n : ℕ). (has_serial n xa ≡ false) × (has_serial n xb ≡ false)) has (distinct_parts xa c xb (subst Distinct shown (distinct_at log t sound late)))
+    apart = subst (λ (n : ℕ). (has_serial n xa ≡ false) × (has_serial n xb ≡ false)) has
+      (distinct_parts xa c xb (subst Distinct shown (distinct_at log t sound late)))
 
     alone : select (named s) (xa ++ (c ∷ xb)) ≡ c ∷ []
     alone =
@@ -92,7 +94,8 @@ withdrawal log t s sound late fa c fb parts on has = record {
     others : select (unnamed s) (xa ++ (c ∷ xb)) ≡ xa ++ xb
     others =
         select_append (unnamed s) xa (c ∷ xb)
-        ∙ ap₂ (λ (l : List Message) (b : Bool). l ++ cond (not b) (c ∷ select (unnamed s) xb) (select (unnamed s) xb)) (named_none s xa apart.0).1 (eq-eqb c.serial s has)
+        ∙ ap₂ (λ (l : List Message) (b : Bool). l ++ cond (not b) (c ∷ select (unnamed s) xb) (select (unnamed s) xb)) (named_none s xa apart.0).1
+          (eq-eqb c.serial s has)
         ∙ ap (λ (l : List Message). xa ++ l) (named_none s xb apart.1).1
 
     noted_there : map (withdrawing s) (fa ++ (c ∷ fb)) ≡ fa ++ (withdrawn c ∷ fb)

@@ -111,7 +111,8 @@ some_amount [] l e = absurd (not-suc-le-zero l)
 some_amount (p ∷ ps) l e = (p.term, (has_amount p.term (p ∷ ps) e).0 (inl refl))
 
 -- in proportion to amounts of which one is above 0, each term of the one side is a term of the other
-lacks_none : (xs ys : List Pair) → ((t t' : ℕ) → count_of t xs * count_of t' ys ≡ count_of t' xs * count_of t ys) → positive xs ≡ true → 1 ≤ length ys → positive ys ≡ true
+lacks_none : (xs ys : List Pair) → ((t t' : ℕ) → count_of t xs * count_of t' ys ≡ count_of t' xs * count_of t ys) → positive xs ≡ true
+    → 1 ≤ length ys → positive ys ≡ true
     → (t : ℕ) → In t (terms xs) → In t (terms ys)
 lacks_none xs ys alike ex ly ey t i =
     let o = some_amount ys ly ey in

@@ -17,8 +17,15 @@ use Rattle.wire.specs.Field.{field, total, spell, scan, Fit}
 use Rattle.wire.proofs.BitLaws.{length_pack}
 use Rattle.wire.proofs.FieldLaws.{field_lt}
 use Rattle.wire.proofs.LayoutLaws.{scan_spell, pack_scan, total_append, scan_append, scan_parts, fit_append}
-use Rattle.paper.specs.Frame.{Pair, Urgency, Form, Frame, Shape, Pairs, AllFit, Valid, level, urgency_of, message_row, tick_row, register_row, unregister_row, cancel_row, graded_by, graded_row, long_row, no_row, row_of, widths, frame_of, term_width, count_width}
-use Rattle.paper.specs.Frame.{weight_width, pairs_width, long_pairs_width, most_pairs, most_in, most_terms, pair_widths, pair_values, bits_of, bytes_for, fill_after, written, written_by, encode, pairs_at, positive, rises, rising, grades_known, check, shape_of_kind, shape}
+use Rattle.paper.specs.Frame.{
+  Pair, Urgency, Form, Frame, Shape, Pairs, AllFit, Valid, level, urgency_of, message_row, tick_row, register_row,
+  unregister_row, cancel_row, graded_by, graded_row, long_row, no_row, row_of, widths, frame_of, term_width, count_width,
+}
+use Rattle.paper.specs.Frame.{
+  weight_width, pairs_width, long_pairs_width, most_pairs, most_in, most_terms, pair_widths, pair_values, bits_of,
+  bytes_for, fill_after, written, written_by, encode, pairs_at, positive, rises, rising, grades_known, check,
+  shape_of_kind, shape,
+}
 use Rattle.paper.proofs.Tests.{and_true}
 use Rattle.paper.specs.Frame.Frame.{message, tick, register, unregister, cancel}
 use Rattle.paper.specs.Frame.Urgency.{routine, important, vital}
@@ -99,7 +106,8 @@ module _ (head : List ℕ) (w : ℕ) where
     all = values ++ (pair_values ps ++ (0 ∷ []))
 
     fit_all : Fit head values → AllFit w ps → Fit (layout (length ps)) all
-    fit_all h k = fit_append head _ values _ h (fit_append (pair_widths w (length ps)) _ (pair_values ps) _ (fit_pairs w ps k) (pow_pos (fill_after (bits_of head w (length ps))), tt))
+    fit_all h k = fit_append head _ values _ h
+      (fit_append (pair_widths w (length ps)) _ (pair_values ps) _ (fit_pairs w ps k) (pow_pos (fill_after (bits_of head w (length ps))), tt))
 
     scan_written : Fit head values → AllFit w ps → scan (written head w values ps) 0 (layout (length ps)) ≡ all
     unfolding written
@@ -128,7 +136,8 @@ module _ (head : List ℕ) (w : ℕ) where
     reads_written s h r =
         let m : ℕ = length ps in
         let whole : scan s 0 (layout m) ≡ all =
-        rw (scan_append s 0 head (tail m), zero-add (total head), scan_append s (total head) (pair_widths w m) (fill_after (bits_of head w m) ∷ []), scan_pairs s (total head) w m, total_pairs w m, r.fields, r.pairs, r.fill) in
+        rw (scan_append s 0 head (tail m), zero-add (total head), scan_append s (total head) (pair_widths w m) (fill_after (bits_of head w m) ∷ []),
+          scan_pairs s (total head) w m, total_pairs w m, r.fields, r.pairs, r.fill) in
         sym (pack_scan s (layout m) h (total_layout m ∙ ap (λ (n : ℕ). 8 * n) (sym r.long))) ∙ ap₂ pack r.long (ap (spell (layout m)) whole)
 
 -- ---- the checks of any kind
@@ -142,7 +151,8 @@ by_test P false h k = k refl
 pub or_refused : (P : Shape → Type 0) (t : Bool) {x y : Shape} → P y → (t ≡ true → P x) → P (cond t x y)
 or_refused P t k h = by_test P t h (λ _. k)
 
-pub check_reads : (s head : List ℕ) (w : ℕ) (values : List ℕ) (ps : List Pair) (make : List Pair → Frame) → Reads s head w values ps → positive ps ≡ true → rising ps ≡ true
+pub check_reads : (s head : List ℕ) (w : ℕ) (values : List ℕ) (ps : List Pair) (make : List Pair → Frame) → Reads s head w values ps
+    → positive ps ≡ true → rising ps ≡ true
     → check s head w (length ps) true (λ qs. accepted (make qs)) ≡ accepted (make ps)
 unfolding check
 check_reads s head w values ps make r p o =
@@ -178,14 +188,16 @@ module _ (s head : List ℕ) (w m : ℕ) where
       (λ fill. or_refused (Sound s) known (inr refl)
       (λ k. or_refused (Sound s) (positive found) (inl (lit≤ tt, lit≤ tt))
       (λ p. or_refused (Sound s) (rising found) (inl (lit≤ tt, lit≤ tt))
-      (λ o. (valid p o, λ h. reads_written head w (scan s 0 head) found s h (found_reads (eqb-true (length s) (bytes_for b) size) (eqb-true (field s b (fill_after b)) 0 fill)) ∙ sym (is k)))))))
+      (λ o. (valid p o, λ h. reads_written head w (scan s 0 head) found s h
+        (found_reads (eqb-true (length s) (bytes_for b) size) (eqb-true (field s b (fill_after b)) 0 fill)) ∙ sym (is k)))))))
 
 -- the pairs that follow a field for their number less one
 module _ (s : List ℕ) (at w n : ℕ) where
   less_one : length (pairs_at s at w (n + 1)) - 1 ≡ n
   less_one = rw (length_pairs s at w (n + 1)) (omega arith)
 
-  pairs_valid : (most : ℕ) → n < most → positive (pairs_at s at w (n + 1)) ≡ true → rising (pairs_at s at w (n + 1)) ≡ true → Pairs w most (pairs_at s at w (n + 1))
+  pairs_valid : (most : ℕ) → n < most → positive (pairs_at s at w (n + 1)) ≡ true → rising (pairs_at s at w (n + 1)) ≡ true
+      → Pairs w most (pairs_at s at w (n + 1))
   pairs_valid most h p o =
       record {
         least_one = omega (arith, length_pairs s at w (n + 1));
@@ -203,7 +215,8 @@ no_row_lem k a b c d e f g = rw (ne_eqb k 1 a, ne_eqb k 2 b, ne_eqb k 3 c, ne_eq
 
 -- a claim about every kind, from the claims about those with a row and about the others
 pub by_kind : (P : ℕ → Type 0) → P 1 → P 2 → P 3 → P 4 → P 5 → P 6 → P 7 → ((k : ℕ) → row_of k ≡ no_row → P k) → (k : ℕ) → P k
-by_kind P a b c d e f g h zero = h zero (no_row_lem zero (λ z. omega arith) (λ z. omega arith) (λ z. omega arith) (λ z. omega arith) (λ z. omega arith) (λ z. omega arith) (λ z. omega arith))
+by_kind P a b c d e f g h zero = h zero
+    (no_row_lem zero (λ z. omega arith) (λ z. omega arith) (λ z. omega arith) (λ z. omega arith) (λ z. omega arith) (λ z. omega arith) (λ z. omega arith))
 by_kind P a b c d e f g h (suc zero) = a
 by_kind P a b c d e f g h (suc (suc zero)) = b
 by_kind P a b c d e f g h (suc (suc (suc zero))) = c
@@ -211,7 +224,8 @@ by_kind P a b c d e f g h (suc (suc (suc (suc zero)))) = d
 by_kind P a b c d e f g h (suc (suc (suc (suc (suc zero))))) = e
 by_kind P a b c d e f g h (suc (suc (suc (suc (suc (suc zero)))))) = f
 by_kind P a b c d e f g h (suc (suc (suc (suc (suc (suc (suc zero))))))) = g
-by_kind P a b c d e f g h (suc (suc (suc (suc (suc (suc (suc (suc k)))))))) = h (suc (suc (suc (suc (suc (suc (suc (suc k)))))))) (no_row_lem _ (λ z. omega arith) (λ z. omega arith) (λ z. omega arith) (λ z. omega arith) (λ z. omega arith) (λ z. omega arith) (λ z. omega arith))
+by_kind P a b c d e f g h (suc (suc (suc (suc (suc (suc (suc (suc k)))))))) = h (suc (suc (suc (suc (suc (suc (suc (suc k))))))))
+    (no_row_lem _ (λ z. omega arith) (λ z. omega arith) (λ z. omega arith) (λ z. omega arith) (λ z. omega arith) (λ z. omega arith) (λ z. omega arith))
 
 -- ---- grades
 
@@ -252,15 +266,20 @@ graded_sound s k w form most is e =
     let u : Urgency = urgency_of (field s 56 2) in
     check_sound s (widths (graded_by w)) count_width (field s 58 w + 1) (leb (field s 56 2) 2 && true)
     (message (field s 4 32) (field s 36 20) (form u))
-    (λ p o. record { time = field_lt s 4 32; serial = field_lt s 36 20; pairs = pairs_valid s at count_width (field s 58 w) (most_in (form u)) (lt_of_lt_of_le (field_lt s 58 w) (most u)) p o })
-    (λ known. rw (is _ _ _ _, e, less_one s at count_width (field s 58 w), level_of (field s 56 2) (leb-true (field s 56 2) 2 (and_true (leb (field s 56 2) 2) true known).0)))
+    (λ p o.
+      record { time = field_lt s 4 32; serial = field_lt s 36 20;
+        pairs = pairs_valid s at count_width (field s 58 w) (most_in (form u)) (lt_of_lt_of_le (field_lt s 58 w) (most u)) p o })
+    (λ known. rw (is _ _ _ _, e, less_one s at count_width (field s 58 w),
+      level_of (field s 56 2) (leb-true (field s 56 2) 2 (and_true (leb (field s 56 2) 2) true known).0)))
 
 kind_sound : (s : List ℕ) (k : ℕ) → field s 0 4 ≡ k → Sound s (shape_of_kind k s)
 unfolding shape_of_kind row_of frame_of encode scan total pairs_at grades_known
 kind_sound s =
     by_kind (λ k. field s 0 4 ≡ k → Sound s (shape_of_kind k s))
     (λ e. check_sound s (widths message_row) count_width (field s 56 4 + 1) true (message (field s 4 32) (field s 36 20) ungraded)
-    (λ p o. record { time = field_lt s 4 32; serial = field_lt s 36 20; pairs = pairs_valid s 60 count_width (field s 56 4) (most_in ungraded) (field_lt s 56 4) p o })
+    (λ p o.
+      record { time = field_lt s 4 32; serial = field_lt s 36 20;
+        pairs = pairs_valid s 60 count_width (field s 56 4) (most_in ungraded) (field_lt s 56 4) p o })
     (λ _. rw (e, less_one s 60 count_width (field s 56 4))))
     (λ e. check_sound s (widths tick_row) 0 0 true (λ _. tick (field s 4 32)) (λ _ _. field_lt s 4 32) (λ _. rw e))
     (λ e. check_sound s (widths register_row) weight_width (field s 45 3 + 1) true (register (field s 4 32) (field s 36 5) (field s 41 4 + 1))
@@ -272,7 +291,8 @@ kind_sound s =
       terms = pairs_valid s 48 weight_width (field s 45 3) most_terms (field_lt s 45 3) p o;
     })
     (λ _. rw (e, less_one s 48 weight_width (field s 45 3), add-sub_cancel (field s 41 4) 1)))
-    (λ e. check_sound s (widths unregister_row) 0 0 true (λ _. unregister (field s 4 32) (field s 36 5)) (λ _ _. (field_lt s 4 32, field_lt s 36 5)) (λ _. rw e))
+    (λ e. check_sound s (widths unregister_row) 0 0 true (λ _. unregister (field s 4 32) (field s 36 5))
+      (λ _ _. (field_lt s 4 32, field_lt s 36 5)) (λ _. rw e))
     (λ e. check_sound s (widths cancel_row) 0 0 true (λ _. cancel (field s 4 32) (field s 36 20)) (λ _ _. (field_lt s 4 32, field_lt s 36 20)) (λ _. rw e))
     (graded_sound s 6 pairs_width graded (λ _. lit≤ tt) (λ t n u ps. refl))
     (graded_sound s 7 long_pairs_width long (λ _. lit≤ tt) (λ t n u ps. refl))

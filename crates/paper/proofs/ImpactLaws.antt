@@ -1,7 +1,10 @@
 -- The impact is the greatest number that meets the rule; it is at most the top, and above 0 for each term that a message has.
 -- Assumes nothing.
 use Prim.Native.Nat.{ℕ, zero, suc, ◌+◌, ◌*◌, ◌≤◌, ◌<◌}
-use native.Mathlib.Nat.{zero-mul, le_refl, le_trans, lt_of_lt_of_le, mul-le-mul, mul-le-mul_left, mul-lt-mul_of_pos_right, mul-mul-mul_comm, not-le_of_lt, le_of_lt, not-suc-le-zero, mul-pos}
+use native.Mathlib.Nat.{
+  zero-mul, le_refl, le_trans, lt_of_lt_of_le, mul-le-mul, mul-le-mul_left, mul-lt-mul_of_pos_right, mul-mul-mul_comm,
+  not-le_of_lt, le_of_lt, not-suc-le-zero, mul-pos,
+}
 use native.Mathlib.Omega.{arith}
 use mathlib.Core.Path.{◌≡◌, refl, sym, ap, ◌∙◌}
 use mathlib.Core.Logic.{◌↔◌}

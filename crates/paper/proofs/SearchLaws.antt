@@ -22,7 +22,10 @@ use Rattle.paper.specs.Rank.{Query, Entry, ahead, ahead_posting, entry, scoring,
 use Rattle.paper.specs.Threshold.{threshold_sum, exceeds_by, exceeds, last_score}
 use Rattle.paper.specs.Log.{Log, query_at, seen, has_serial, cancels, accept, list_of}
 use Rattle.paper.specs.Sound.{Distinct, Terms, Sound}
-use Rattle.paper.specs.Search.{postings_of, count_in, next, products, highest, highest_at, next_at, without, messages_of, seen_by, ends, Outcome, search_on, search}
+use Rattle.paper.specs.Search.{
+  postings_of, count_in, next, products, highest, highest_at, next_at, without, messages_of, seen_by, ends, Outcome,
+  search_on, search,
+}
 use Rattle.paper.proofs.Tests.{by_bool, and_true, or_true}
 use Rattle.paper.proofs.SortLaws.{in_map, from_map, select_all, select_in, in_select, select_length, sort_in, in_sort, length_sort}
 use Rattle.paper.proofs.LeadLaws.{Falling, falling_sort, has_serial_lem, other_serial, entries_select, entries_in_lem}
@@ -285,7 +288,8 @@ module _ (qs : List Pair) (left : List (List Entry)) (n s : ℕ) where
   steps_on e =
       rw (fronts qs left, sum_products qs (map next left), e)
       (ap (λ (vss : List (List ℕ)). suc (steps n s vss))
-      (sym (without_weighed (weights qs) (next_at qs left) (impacts left)) ∙ ap (weighed (weights qs)) (without_map (λ (e : Entry). e.score) (next_at qs left) left)))
+      (sym (without_weighed (weights qs) (next_at qs left) (impacts left))
+        ∙ ap (weighed (weights qs)) (without_map (λ (e : Entry). e.score) (next_at qs left) left)))
 
 -- ---- messages by their serials
 
@@ -444,7 +448,8 @@ pub search_list : (q : Query) (ms : List Message) → Terms q → Distinct ms �
 search_list q ms terms distinct = (whole q ms terms distinct).list
 
 -- where the list isn't full all postings are read
-pub search_short : (q : Query) (ms : List Message) → Terms q → Distinct ms → length (ranking q ms) < q.k → (search q ms).read ≡ count_in (postings_of q.terms ms)
+pub search_short : (q : Query) (ms : List Message) → Terms q → Distinct ms → length (ranking q ms) < q.k
+    → (search q ms).read ≡ count_in (postings_of q.terms ms)
 search_short q ms terms distinct h = omega (arith, (whole q ms terms distinct).short h)
 
 -- where it is full they are read until the sum of the next ones is below the last score

@@ -19,7 +19,10 @@ use Rattle.paper.specs.Sort.{select, sort}
 use Rattle.paper.specs.Rank.{Query, Entry, ahead, entry, scoring, entries, ranking, lines, serials}
 use Rattle.paper.specs.Threshold.{term_at, threshold_sum, Exceeds, exceeds_by, exceeds, candidates, reached, last_score, Tight, Kept, Settled}
 use Rattle.paper.proofs.Tests.{by_bool, or_false, or_true}
-use Rattle.paper.proofs.SortLaws.{in_left, in_right, select_all, select_in, select_take, select_among, select_select, select_change, select_map, count_sort, best}
+use Rattle.paper.proofs.SortLaws.{
+  in_left, in_right, select_all, select_in, select_take, select_among, select_select, select_change, select_map,
+  count_sort, best,
+}
 use Rattle.paper.proofs.FrameLaws.{level_most}
 use Rattle.paper.proofs.RankLaws.{ranking_length, ranking_last}
 
@@ -161,7 +164,8 @@ module _ (q : Query) where
     full_above : (ms : List Message) → length (ranking q ms) ≡ q.k → s < last_score (ranking q ms) → q.k ≤ length (select (above s) (scored ms))
     unfolding ranking
     full_above ms full h =
-        let listed : select (above s) (ranking q ms) ≡ ranking q ms = select_all (above s) (ranking q ms) (λ e m. omega (arith, ranking_last q ms e m, lt-ltb)) in
+        let listed : select (above s) (ranking q ms) ≡ ranking q ms =
+          select_all (above s) (ranking q ms) (λ e m. omega (arith, ranking_last q ms e m, lt-ltb)) in
         omega (arith, ap length listed, select_take (above s) q.k (sort ahead (scored ms)), count_sort ahead (above s) (scored ms))
 
     scoring_above : s ≡ 0 → (ms : List Message) → select (above s) (scored ms) ≡ scored ms

@@ -91,7 +91,8 @@ pub record Call : Type 0 where
 abbrev pub lent : ℕ → ℕ → ℕ → Bool
 lent state output needed = eqb state state_length && leb needed output
 
--- "Order for a frame: state length (12), then 1 to 10", 14 between 4 and 5 and 13 in the place of 8. `needed` is how many bytes the answer takes where it is written into lent ones, else 0.
+-- "Order for a frame: state length (12), then 1 to 10", 14 between 4 and 5 and 13 in the place of 8. `needed` is how many bytes the answer takes
+-- where it is written into lent ones, else 0.
 unfoldable pub judge : ℕ → Log → Call → ℕ
 judge needed log c = cond (lent c.state c.output needed) (judge_shape log (shape c.bytes)) 12
 

@@ -1,7 +1,9 @@
 -- The numbers of the refusals. Document 01, "Replies", and document 02, T-02 and T-04. Assumes nothing.
 use Rattle.std.specs.Prelude.{ℕ}
 use Rattle.paper.specs.declared.refusal.Refusal.{Refusal}
-use Rattle.paper.specs.declared.refusal.Refusal.TheVariants.{Short, Kind, Length, Fill, Value, Order, Time, Serial, InUse, NotInUse, Start, Memory, NotInForce, Urgency}
+use Rattle.paper.specs.declared.refusal.Refusal.TheVariants.{
+  Short, Kind, Length, Fill, Value, Order, Time, Serial, InUse, NotInUse, Start, Memory, NotInForce, Urgency,
+}
 
 abbrev pub number_of : Refusal → ℕ
 number_of Short = 1

@@ -7,14 +7,15 @@ use mathlib.Core.Path.{◌≡◌, refl, sym, ap, ap₂, ◌∙◌, subst}
 use mathlib.Core.Bool.{true, false}
 use mathlib.Core.Logic.{◌⊎◌, inl, inr, ⊎_elim}
 use mathlib.Core.List.{List, [], ◌∷◌, ◌++◌, map, map-map, map-append, append-nil, append_assoc}
-use lib.ListN.{length, get_or, take, drop, length-append, length-take, length-drop, length-map, drop_of_length-le}
-use lib.Seq.{take_all, take-suc, take-take, get_or-take, length-take-le, drop-cons, drop-drop}
+use lib.ListN.{length, get_or, take, drop, length-append, get_or-append, length-take, length-drop, length-map, drop_of_length-le}
+use lib.Seq.{take_all, take-append-le, take-suc, take-take, get_or-take, length-take-le, drop-cons, drop-drop}
 use lib.Dec.{leb}
 use borrow.Author.Tests.{ltb-true, ltb-false, leb-true, leb-false}
 use borrow.Rule.Slice.PartMut.{put_mid}
 use Rattle.paper.specs.Frame.{numbers, most_listed}
 use Rattle.paper.specs.Rank.{Line}
 use Rattle.paper.specs.Order.{In}
+use Rattle.paper.specs.Sort.{select}
 use Rattle.paper.specs.Screen.{Queue, ScreenLine, round, served, longest, screen, upward, screen_line_length}
 use Rattle.paper.proofs.Tests.{by_bool}
 use Rattle.paper.proofs.SortLaws.{select_in, take_map}
@@ -24,9 +25,9 @@ use Rattle.rank.specs.Listing.{line_with, shown}
 use Rattle.query.specs.Record.{keys, list, listed_at}
 use Rattle.query.proofs.PlaceLaws.{keys_most}
 use Rattle.screen.specs.Lines.{screen_line_bytes, screen_bytes, lines_into}
-use Rattle.screen.specs.Post.{queue_after, waits, line_after, all_queues, QueryNumbers, StillWaiting, Shared}
+use Rattle.screen.specs.Post.{queue_after, waits, line_after, all_queues, StillWaiting, Shared}
 use Rattle.screen.proofs.LineLaws.{lines_length, lines_put}
-use Rattle.screen.proofs.WaitLaws.{all_known}
+use Rattle.screen.proofs.WaitLaws.{Known, all_known}
 
 -- ---- a round
 
@@ -70,10 +71,6 @@ module _ {w : List ℕ} {i : ℕ} {qs out₀ out : List ℕ} {j : ℕ} (room : s
         long = ap length lines ∙ lines_length (map (line_after w i) (take (j + 1) qs)) out₀ (simp (length-map, length-take) (omega arith));
         lines = lines;
       }
-
-pub writing_all : {w : List ℕ} {i : ℕ} {qs out₀ out : List ℕ} {j : ℕ} → length qs ≤ j → WritingRound w i qs out₀ out j
-    → out ≡ lines_into (map (line_after w i) qs) out₀
-writing_all {w} {i} {qs} {out₀} {j = j} h p = p.lines ∙ ap (λ (l : List ℕ). lines_into (map (line_after w i) l) out₀) (take_all j qs h)
 
 -- ---- round after round
 
@@ -132,7 +129,7 @@ ended w {i} (q ∷ ns) h =
 
 -- `done` is written, and with what is left to be written it is the screen
 pub record Sharing (w : List ℕ) (B : ℕ) (out₀ out : List ℕ) (ns : List ℕ) (count placed i : ℕ) : Type 0 where
-  pub known : QueryNumbers ns count
+  pub known : Known ns count
   pub most : placed ≤ B
   pub rounds : i ≤ most_listed
   pub long : length out ≡ length out₀
@@ -150,8 +147,26 @@ sharing_none {B = B} {ns = ns} x z y k =
     rw (x, z, y)
     (record { known = all_known k; most = omega arith; rounds = omega arith; long = refl; done = []; written = refl; lines = refl; rest = rw (e, all) })
 
+-- of the first `count` queries those that wait are the first r
+pub record Left (w : List ℕ) (i : ℕ) (ns : List ℕ) (count : ℕ) (ns' : List ℕ) (r : ℕ) : Type 0 where
+  known : Known ns' r
+  right : take r ns' ≡ select (waits w i) (take count ns)
+
+pub left_in : {w : List ℕ} {i count r : ℕ} {ns part : List ℕ} → Known ns count → length part ≡ length (take count ns)
+    → StillWaiting w i (take count ns) part r → Left w i ns count (part ++ drop count ns) r
+left_in {count = count} {r} {ns} {part} k long s =
+    let l : length part ≡ count = long ∙ length-take-le count ns (omega (arith, k.long, k.most)) in
+    record {
+      known = record {
+        long = simp (length-append, length-drop) (omega (arith, k.long, k.most));
+        most = omega (arith, s.most, k.most);
+        below = λ j h. rw (get_or-append part (drop count ns) 0 j (omega (arith, s.most))) (s.known j h);
+      };
+      right = take-append-le r part (drop count ns) s.most ∙ s.right;
+    }
+
 module _ {w : List ℕ} {B : ℕ} {out₀ out : List ℕ} {ns ns' : List ℕ} {count count' placed i n : ℕ} (room : screen_line_length * B ≤ length out₀)
-    (h : i < most_listed) (left : StillWaiting w i ns count ns' count') (is : n ≡ min count' (B - placed))
+    (h : i < most_listed) (left : Left w i ns count ns' count') (is : n ≡ min count' (B - placed))
     (p : Sharing w B out₀ out ns count placed i) where
   -- each of those that are left waits
   waiting : (q : ℕ) → In q (take count' ns') → waits w i q ≡ true

@@ -29,7 +29,13 @@ numbering_all {q} {a} h p =
     ext_get_or 0 a (upward 0 numbers) (p.long ∙ sym (upward_length 0 numbers))
     (λ j k. p.same j (omega (arith, p.long)) ∙ sym (upward_at 0 numbers j (omega (arith, p.long)) ∙ omega arith))
 
-pub all_known : {a : List ℕ} → a ≡ upward 0 numbers → QueryNumbers a numbers
+-- the first `count` are numbers of queries
+pub record Known (ns : List ℕ) (count : ℕ) : Type 0 where
+  pub long : length ns ≡ numbers
+  pub most : count ≤ numbers
+  pub below : (j : ℕ) → j < count → get_or ns j 0 < numbers
+
+pub all_known : {a : List ℕ} → a ≡ upward 0 numbers → Known a numbers
 all_known e = record {
   long = ap length e ∙ upward_length 0 numbers;
   most = omega arith;
@@ -39,35 +45,35 @@ all_known e = record {
 -- ---- those with an entry at place i
 
 -- of the first j of the numbers, n are in front; those from j on are as they were
-pub record Choosing (w : List ℕ) (i count : ℕ) (ns a : List ℕ) (n j : ℕ) : Type 0 where
-  pub bound : j ≤ count
+pub record Choosing (w : List ℕ) (i : ℕ) (ns a : List ℕ) (n j : ℕ) : Type 0 where
+  pub bound : j ≤ length ns
   pub few : n ≤ j
-  pub long : length a ≡ numbers
+  pub long : length a ≡ length ns
   pub below : (k : ℕ) → k < n → get_or a k 0 < numbers
   pub later : (k : ℕ) → j ≤ k → get_or a k 0 ≡ get_or ns k 0
   pub right : take n a ≡ select (waits w i) (take j ns)
 
-pub choosing_none : {w : List ℕ} {i count : ℕ} {ns : List ℕ} {n j : ℕ} → n ≡ 0 → j ≡ 0 → length ns ≡ numbers → Choosing w i count ns ns n j
+pub choosing_none : {w : List ℕ} {i : ℕ} {ns : List ℕ} {n j : ℕ} → n ≡ 0 → j ≡ 0 → Choosing w i ns ns n j
 unfolding select
-choosing_none z y l =
+choosing_none z y =
     rw (z, y)
-    (record { bound = omega arith; few = omega arith; long = l; below = λ k h. absurd (omega arith); later = λ k h. refl; right = refl })
+    (record { bound = omega arith; few = omega arith; long = refl; below = λ k h. absurd (omega arith); later = λ k h. refl; right = refl })
 
-module _ {w : List ℕ} {i count : ℕ} {ns a : List ℕ} {n j q : ℕ} (known : QueryNumbers ns count) (h : j < count) (is : q ≡ get_or a j 0)
-    (p : Choosing w i count ns a n j) where
+module _ {w : List ℕ} {i : ℕ} {ns a : List ℕ} {n j q : ℕ} (known : QueryNumbers ns) (h : j < length ns) (is : q ≡ get_or a j 0)
+    (p : Choosing w i ns a n j) where
   number : q ≡ get_or ns j 0
   number = is ∙ p.later j (omega arith)
 
   pub number_below : q < numbers
-  number_below = rw number (known.below j h)
+  number_below = rw number (known j h)
 
   one_more : select (waits w i) (take (j + 1) ns) ≡ select (waits w i) (take j ns) ++ select (waits w i) (q ∷ [])
-  one_more = rw (add-one j, take-suc ns j 0 (omega (arith, known.most, known.long)), ← number) (select_append (waits w i) (take j ns) (q ∷ []))
+  one_more = rw (add-one j, take-suc ns j 0 h, ← number) (select_append (waits w i) (take j ns) (q ∷ []))
 
   room : n < length a
-  room = omega (arith, p.few, p.long, known.most)
+  room = omega (arith, p.few, p.long)
 
-  pub choosing_kept : i < length (keys w q) → Choosing w i count ns (set a n q) (n + 1) (j + 1)
+  pub choosing_kept : i < length (keys w q) → Choosing w i ns (set a n q) (n + 1) (j + 1)
   unfolding select
   choosing_kept some = record {
     bound = omega arith;
@@ -84,7 +90,7 @@ module _ {w : List ℕ} {i count : ℕ} {ns a : List ℕ} {n j q : ℕ} (known :
         ∙ sym (one_more ∙ rw (lt-ltb i (length (keys w q)) some));
   }
 
-  pub choosing_passed : length (keys w q) ≤ i → Choosing w i count ns a n (j + 1)
+  pub choosing_passed : length (keys w q) ≤ i → Choosing w i ns a n (j + 1)
   unfolding select
   choosing_passed none = record {
     bound = omega arith;

@@ -26,16 +26,15 @@ all_queues w = map (queue_after w 0) (upward 0 numbers)
 
 -- ---- what the functions ensure
 
--- the first `count` are numbers of queries
-pub record QueryNumbers (ns : List ℕ) (count : ℕ) : Type 0 where
-  pub long : length ns ≡ numbers
-  pub most : count ≤ numbers
-  pub below : (j : ℕ) → j < count → get_or ns j 0 < numbers
+-- these are numbers of queries
+abbrev pub QueryNumbers : List ℕ → Type 0
+QueryNumbers ns = (j : ℕ) → j < length ns → get_or ns j 0 < numbers
 
--- of the first `count` those that wait after i rounds are the first r
-pub record StillWaiting (w : List ℕ) (i : ℕ) (ns : List ℕ) (count : ℕ) (ns' : List ℕ) (r : ℕ) : Type 0 where
-  pub known : QueryNumbers ns' r
-  pub right : take r ns' ≡ select (waits w i) (take count ns)
+-- of these queries those that wait after i rounds are the first r
+pub record StillWaiting (w : List ℕ) (i : ℕ) (ns ns' : List ℕ) (r : ℕ) : Type 0 where
+  pub most : r ≤ length ns'
+  pub known : (j : ℕ) → j < r → get_or ns' j 0 < numbers
+  pub right : take r ns' ≡ select (waits w i) ns
 
 pub record Shared (w : List ℕ) (B : ℕ) (out : List ℕ) (r : ℕ) (out' : List ℕ) : Type 0 where
   pub count : r ≡ length (screen B (all_queues w))

@@ -27,13 +27,13 @@ fn put_numbers(queries: &mut [u8])
     }
 }
 
-// Of the first `count` queries those that have an entry at place i move to the front; how many they are.
-fn with_entry(state: &State, queries: &mut [u8], count: usize, i: usize) -> usize
-    requires { QueryNumbers queries.old count }
-    ensures { StillWaiting (words state.now) i queries.old count queries.new result }
+// Of these queries those that have an entry at place i move to the front; how many they are.
+fn with_entry(state: &State, queries: &mut [u8], i: usize) -> usize
+    requires { QueryNumbers queries.old }
+    ensures { StillWaiting (words state.now) i queries.old queries.new result }
 {
     let mut n: usize = 0;
-    for j in 0..count {
+    for j in 0..queries.len() {
         let q = queries[j];
         if i < query::listed(state, q as usize) {
             queries[n] = q;
@@ -88,7 +88,7 @@ pub fn share(state: &State, lines: usize, out: &mut [u8]) -> usize
         if lines <= placed || count == 0 {
             break;
         }
-        count = with_entry(state, &mut queries, count, i);
+        count = with_entry(state, &mut queries[..count], i);
         let n = count.min(lines - placed);
         let at = LINE * placed;
         put_round(state, &queries[..n], i, &mut out[at..]);

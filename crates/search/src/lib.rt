@@ -6,7 +6,7 @@
 
 ghost use Rattle.std.specs.Prelude.{◌≡◌, ◌*◌, ◌<◌, ◌≤◌, cond, length, leb};
 ghost use Rattle.paper.specs.Frame.{most_terms, most_listed};
-ghost use Rattle.paper.specs.Layout.{state_length, slots};
+ghost use Rattle.paper.specs.Layout.{slots};
 ghost use Rattle.memory.specs.Words.{words};
 ghost use Rattle.window.specs.Rows.{row_width};
 ghost use Rattle.search.specs.Cut as cut;

@@ -9,7 +9,7 @@ use lib.ListN.{take, length-append}
 use lib.Dec.{ltb, eqb}
 use borrow.Author.Tests.{ltb-true, ltb-false, lt-ltb, le-ltb}
 use Rattle.io.specs.Digits.{hex_digit_ascii, last_digits, IsDigitCount}
-use Rattle.engine.specs.declared.Listing.{Listing}
+use Rattle.engine.specs.Told.{ToldList}
 use Rattle.engine.specs.Post.{ListPost}
 use Rattle.session.specs.Text.{spelled, list_line, Shown, marks_from, Lists, Put, Printed}
 
@@ -71,7 +71,7 @@ module _ (s : List ℕ) (q at : ℕ) (out : List ℕ) where
   pub shown_unmarked : (m : Bool) → m ≡ false → Printed (Shown s q m) at out at out
   shown_unmarked m e = rw e (record { text = []; right = Shown.unmarked; put = put_nothing at out })
 
-  module _ (m : Bool) (marked : m ≡ true) (r : Listing) (post : ListPost s q r) where
+  module _ (m : Bool) (marked : m ≡ true) (r : ToldList) (post : ListPost s q r) where
     pub shown_unregistered : (r.number ≡ 0 → ⊥) → Printed (Shown s q m) at out at out
     shown_unregistered refused = rw marked (record { text = []; right = Shown.unregistered r post refused; put = put_nothing at out })
 

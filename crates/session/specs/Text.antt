@@ -1,7 +1,7 @@
 -- What the session prints, as bytes: "Each frame prints its ordinal, its number, marks as eight hexadecimal digits, departures; then for each marked
 -- query still registered, in rising number, `Q`, the query, entries, and serial and score of each entry." Assumes nothing.
 use Rattle.std.specs.Prelude.{ℕ, zero, suc, ◌+◌, ◌/◌, ◌%◌, ◌≡◌, Bool, true, false, cond, List, [], ◌∷◌, ◌++◌, length, get_or, take, ltb, eqb}
-use Rattle.engine.specs.declared.Listing.{Listing}
+use Rattle.engine.specs.Told.{ToldList}
 use Rattle.engine.specs.Post.{ListPost}
 use Rattle.io.specs.Digits.{hex_digit_ascii, last_digits}
 
@@ -42,8 +42,8 @@ list_line q serials scores count = (81 ∷ []) ++ field q ++ field count ++ entr
 -- what is printed of query q, by a list reading of the state s: its line where it is marked and still registered
 pub data Shown (s : List ℕ) (q : ℕ) : Bool → List ℕ → Type 0 where
   unmarked : Shown s q false []
-  unregistered : (r : Listing) → ListPost s q r → (r.number ≡ 0 → ⊥) → Shown s q true []
-  registered : (r : Listing) → ListPost s q r → r.number ≡ 0 → Shown s q true (list_line q r.list.serials r.list.scores r.list.count)
+  unregistered : (r : ToldList) → ListPost s q r → (r.number ≡ 0 → ⊥) → Shown s q true []
+  registered : (r : ToldList) → ListPost s q r → r.number ≡ 0 → Shown s q true (list_line q r.list.serials r.list.scores r.list.count)
 
 -- the marks of the queries from number q on
 unfoldable pub marks_from : ℕ → ℕ → ℕ

@@ -6,6 +6,7 @@ mod text;
 ghost use Rattle.std.specs.Prelude.{◌+◌, ◌≤◌, length as Len, IfOk};
 ghost use Rattle.session.specs.Text.{Printed, Shown, Lists};
 
+use paper::Refusal;
 use std::io::{Print, Read, Result};
 
 // The list of a query that is marked and still registered.
@@ -17,12 +18,10 @@ fn shown(out: &mut [u8], at: usize, state: &[u8], q: u32, marked: bool) -> usize
     if !marked {
         return at;
     }
-    let listing = engine::list(state, q);
-    if listing.number != 0 {
-        return at;
+    match engine::list(state, q) {
+        Ok(list) => text::list(out, at, q, list),
+        Err(_) => at,
     }
-    let list = listing.list;
-    text::list(out, at, q, list)
 }
 
 // The lists of the marked queries that are still registered, in rising number.
@@ -32,20 +31,12 @@ fn lists(out: &mut [u8], at: usize, state: &[u8], marks: u32) -> usize
     ensures upper_bound { result ≤ at + 22912 }
 {
     let mut end = at;
-    let mut q: u32 = 0;
     let mut left = marks;
-    while q < 32 {
+    for q in 0..32 {
         end = shown(out, end, state, q, left % 2 == 1);
         left /= 2;
-        q += 1;
     }
     end
-}
-
-fn wide(x: u8) -> usize
-    ensures { result ≤ 255 }
-{
-    x as usize
 }
 
 // Reads until the buffer is full or the input ends, and answers how many bytes came.
@@ -85,7 +76,10 @@ fn hand(
 {
     let reply = engine::frame(state, &bytes[..length]);
     let line = text::reply(out, 0, ordinal, reply);
-    let end = lists(out, line, state, reply.marks);
+    let end = match reply {
+        Ok(reply) => lists(out, line, state, reply.marks),
+        Err(_) => line,
+    };
     output.write_all(&out[..end])
 }
 
@@ -104,31 +98,26 @@ fn feed(
         return Ok(false);
     }
     let mut bytes = [0u8; 255];
-    let length = wide(size[0]);
-    let got = fill(input, &mut bytes, length)?;
+    let got = fill(input, &mut bytes, usize::from(size[0]))?;
     hand(output, state, ordinal, &bytes, got, out)?;
     Ok(true)
 }
 
-// A proved loop has to end, so frames are counted down from a number that no session uses up.
+// A proved loop has to end, so frames are counted up to a number that no session reaches.
 fn run(input: &mut impl Read, output: &impl Print, state: &mut [u8]) -> Result<()> {
     let mut out = [0u8; text::MOST];
-    let mut left = u64::MAX;
-    while left > 0 && feed(input, output, state, u64::MAX - left + 1, &mut out)? {
-        left -= 1;
+    for ordinal in 1..=u64::MAX {
+        if !feed(input, output, state, ordinal, &mut out)? {
+            break;
+        }
     }
     Ok(())
 }
 
 // What ends a session before its first frame.
-fn print_refusal(output: &impl Print, number: u32) -> Result<()> {
+fn print_refusal(output: &impl Print, refusal: Refusal) -> Result<()> {
     let mut out = [0u8; 72];
-    let reply = engine::Reply {
-        number,
-        marks: 0,
-        departures: 0,
-    };
-    let end = text::reply(&mut out, 0, 0, reply);
+    let end = text::reply(&mut out, 0, 0, Err(refusal));
     output.write_all(&out[..end])
 }
 
@@ -136,14 +125,13 @@ fn main(rt: HostRuntime) -> Result<()> {
     let mut input = rt.stdin();
     let mut header = [0u8; 3];
     if read_full(&mut input, &mut header)? < 3 {
-        return print_refusal(&rt, 1);
+        return print_refusal(&rt, Refusal::Short);
     }
     let mut state = [0u8; paper::layout::STATE];
-    let capacity = wide(header[0]) + 1;
-    let life = wide(header[1]) * 256 + wide(header[2]);
-    let number = engine::start(&mut state, capacity as u32, life as u32);
-    if number != 0 {
-        return print_refusal(&rt, number);
+    let capacity = u32::from(header[0]) + 1;
+    let life = u32::from(header[1]) * 256 + u32::from(header[2]);
+    if let Err(refusal) = engine::start(&mut state, capacity, life) {
+        return print_refusal(&rt, refusal);
     }
     run(&mut input, &rt, &mut state)
 }

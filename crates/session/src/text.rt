@@ -1,7 +1,11 @@
-// What the session prints, gathered in a buffer: each function puts its text after the first `at` bytes and answers where it ends.
+// What the session prints, gathered in a buffer: each function puts its text after the first `at` bytes and answers where it ends. A slice of what is left
+// would have to be handed back by each, and is no plainer.
 ghost use Rattle.std.specs.Prelude.{◌+◌, ◌≤◌, length as Len};
+ghost use Rattle.engine.specs.Told.{told_reply};
 ghost use Rattle.session.specs.Text.{Put, decimal, field as text_field, marks_field, reply_line, entries as text_entries, list_line};
 
+use engine::Reply;
+use paper::Refusal;
 use rank::Lines;
 
 // The longest text of a frame: its line, and 32 lists of sixteen entries; a number has at most twenty digits.
@@ -11,12 +15,9 @@ fn put(out: &mut [u8], at: usize, text: &[u8]) -> usize
     requires { at + Len text.now ≤ Len out.old }
     ensures { Put text.now at out.old result out.new }
 {
-    let mut i: usize = 0;
-    while i < text.len() {
-        out[at + i] = text[i];
-        i += 1;
-    }
-    at + i
+    let end = at + text.len();
+    out[at..end].copy_from_slice(text);
+    end
 }
 
 fn number(out: &mut [u8], at: usize, n: u64) -> usize
@@ -46,36 +47,48 @@ fn marks(out: &mut [u8], at: usize, marked: u32) -> usize
     ensures upper_bound { result ≤ at + 9 }
 {
     let mut text = [0u8; 16];
-    let k = io::hex(marked as u64, 8, &mut text);
+    let k = io::hex(u64::from(marked), 8, &mut text);
     let next = put(out, at, b" ");
     put(out, next, &text[..k])
 }
 
 // A frame's line: ordinal, number, marks, departures.
-pub fn reply(out: &mut [u8], at: usize, ordinal: u64, reply: engine::Reply) -> usize
+fn line(out: &mut [u8], at: usize, ordinal: u64, told: u32, marked: u32, departed: u32) -> usize
     requires { at + 72 ≤ Len out.old }
-    ensures put { Put (reply_line ordinal reply.number reply.marks reply.departures) at out.old result out.new }
+    ensures put { Put (reply_line ordinal told marked departed) at out.old result out.new }
     ensures upper_bound { result ≤ at + 72 }
 {
     let first = number(out, at, ordinal);
-    let second = field(out, first, reply.number as u64);
-    let third = marks(out, second, reply.marks);
-    let fourth = field(out, third, reply.departures as u64);
+    let second = field(out, first, u64::from(told));
+    let third = marks(out, second, marked);
+    let fourth = field(out, third, u64::from(departed));
     put(out, fourth, b"\n")
 }
 
-// Serial and score of each of the first places of a list.
-fn entries(out: &mut [u8], at: usize, serials: [u32; 16], scores: [u32; 16], count: usize) -> usize
-    requires { (count ≤ 16) × (at + 672 ≤ Len out.old) }
-    ensures put { Put (text_entries serials scores count) at out.old result out.new }
+// The line of a frame that was answered so: of a refused one the refusal's number, and all else 0.
+pub fn reply(out: &mut [u8], at: usize, ordinal: u64, reply: Result<Reply, Refusal>) -> usize
+    requires { at + 72 ≤ Len out.old }
+    ensures put { let r = told_reply reply in Put (reply_line ordinal r.number r.marks r.departures) at out.old result out.new }
+    ensures upper_bound { result ≤ at + 72 }
+{
+    match reply {
+        Ok(reply) => line(out, at, ordinal, 0, reply.marks, reply.departures),
+        Err(refusal) => line(out, at, ordinal, u32::from(refusal), 0, 0),
+    }
+}
+
+// Serial and score of each entry of a list.
+fn entries(out: &mut [u8], at: usize, list: Lines) -> usize
+    requires { (list.count ≤ 16) × (at + 672 ≤ Len out.old) }
+    ensures put { Put (text_entries list.serials list.scores list.count) at out.old result out.new }
     ensures upper_bound { result ≤ at + 672 }
 {
+    let serials = list.serials;
+    let scores = list.scores;
     let mut end = at;
-    let mut i: usize = 0;
-    while i < count {
-        let next = field(out, end, serials[i] as u64);
-        end = field(out, next, scores[i] as u64);
-        i += 1;
+    for i in 0..list.count {
+        let next = field(out, end, u64::from(serials[i]));
+        end = field(out, next, u64::from(scores[i]));
     }
     end
 }
@@ -86,12 +99,9 @@ pub fn list(out: &mut [u8], at: usize, q: u32, list: Lines) -> usize
     ensures put { Put (list_line q list.serials list.scores list.count) at out.old result out.new }
     ensures upper_bound { result ≤ at + 716 }
 {
-    let count = list.count;
-    let serials = list.serials;
-    let scores = list.scores;
     let first = put(out, at, b"Q");
-    let second = field(out, first, q as u64);
-    let third = field(out, second, count as u64);
-    let fourth = entries(out, third, serials, scores, count);
+    let second = field(out, first, u64::from(q));
+    let third = field(out, second, list.count as u64);
+    let fourth = entries(out, third, list);
     put(out, fourth, b"\n")
 }

@@ -60,8 +60,8 @@ returns-in-Register c =
 pub returns-in-Unregister : goal.returns-in-Unregister
 returns-in-Unregister c =
     let lent = c.in-Some.ensures.cases in
-    done _ _ _ _ lent.long (search rules) (read_as _ _ c.in_ok-parsed.ensures _ c.in-Unregister.is) (lent_bytes (goal.at.returns-in-Unregister c).After-as_mut_array)
-    (λ i. (c.type_inv.state i).fits) _ (rw lent.same at c.unregister.ensures)
+    done _ _ _ _ lent.long (search rules) (read_as _ _ c.in_ok-parsed.ensures _ c.in-Unregister.is)
+    (lent_bytes (goal.at.returns-in-Unregister c).After-as_mut_array) (λ i. (c.type_inv.state i).fits) _ (rw lent.same at c.unregister.ensures)
 
 pub returns-in-Cancel : goal.returns-in-Cancel
 returns-in-Cancel c =

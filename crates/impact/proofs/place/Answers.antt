@@ -7,9 +7,6 @@ use Rattle.impact.proofs.Places.{upper_half, lower_half}
 use Rattle.impact.proofs.Table.{entry}
 use Rattle.impact.proofs.place.Goals as goal
 
-pub loop-low-init : goal.loop-low-init
-loop-low-init c = record { in_order = c.requires.0; in_range = le_refl c.args.last; meets = c.requires.2; none_above = λ v l m. l }
-
 pub loop-low-preserved-then-square-most : goal.loop-low-preserved-then-square-most
 loop-low-preserved-then-square-most c =
     let looked : let l = c.loop-low in let m = (l.low + l.high + 1) / 2 in c.square.result ≡ m * m =
@@ -28,7 +25,3 @@ loop-low-preserved c =
     omega arith in
     let e = looked in lower_half c.loop-low.invariant (omega arith) (omega arith) (omega arith)
 
-pub returns : goal.returns
-returns c =
-    let s = c.loop-low.invariant in
-    (omega arith, s.meets, λ v l m. let h = s.none_above v l m in omega arith)

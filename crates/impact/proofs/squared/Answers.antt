@@ -25,14 +25,6 @@ pub loop-count-init : goal.loop-count-init
 unfolding squares_of
 loop-count-init c = (omega arith, omega arith)
 
-pub overflow_add-sum : goal.overflow_add-sum
-overflow_add-sum c = let h = taken c in omega arith
-
 pub loop-count-preserved : goal.loop-count-preserved
 loop-count-preserved c = let h = taken c in (h.1, omega arith)
 
-pub returns : goal.returns
-returns c =
-    let n = length-take c.args.m c.args.counts in
-    let e : c.loop-count.count-index ≡ c.args.m = omega arith in
-    c.loop-count.invariant.0 ∙ ap (λ (i : ℕ). squares_of i c.args.counts) e

@@ -29,18 +29,6 @@ above : (c : goal.Start) → 0 < reach * reach / c.args.n
 above c =
     most_above c.args.n c.requires c.ranges.n.fits
 
-pub overflow_sub-start : goal.overflow_sub-start
-overflow_sub-start c =
-    leading_le 32 c.args.n
-
-pub overflow_cast-start : goal.overflow_cast-start
-overflow_cast-start c =
-    let h = half_most c.args.n in search rules
-
-pub overflow_shr-start : goal.overflow_shr-start
-overflow_shr-start c =
-    let h = half_most c.args.n in search rules
-
 pub closer-requires : goal.closer-requires
 closer-requires c =
     (div-le_self (reach * reach) c.args.n, start_above c.args.n, div-le_self reach (2 ^ half c.args.n))
@@ -60,16 +48,6 @@ closer-guess-requires c =
 pub loop-guess-init : goal.loop-guess-init
 loop-guess-init c =
     stepped (above c.before.before.before.before) (closer-guess-requires c.before) c.closer-guess.ensures
-
-pub overflow_mul-guess : goal.overflow_mul-guess
-overflow_mul-guess c =
-    let g = c.loop-guess.invariant.0.2 in
-    let h : c.loop-guess.guess * c.loop-guess.guess ≤ reach * reach = mul-le-mul g g in
-    omega arith
-
-pub loop-guess-smaller : goal.loop-guess-smaller
-loop-guess-smaller c =
-    step_falls reach (omega arith) c.loop-guess.invariant.0.1 c.closer-guess-in-loop-guess.ensures
 
 pub loop-guess-preserved : goal.loop-guess-preserved
 loop-guess-preserved c =

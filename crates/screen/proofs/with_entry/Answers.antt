@@ -1,13 +1,12 @@
 -- `with_entry` meets its contract. Assumes nothing.
 use native.Mathlib.Omega.{arith}
 use mathlib.Core.Path.{refl}
-use borrow.Author.Rules.{rules}
 use Rattle.screen.proofs.WaitLaws.{choosing_none, choosing_kept, choosing_passed}
 use Rattle.screen.proofs.with_entry.Goals as goal
 use Rattle.screen.proofs.with_entry.Goals.{then-i-listed, else-i-listed}
 
 pub loop-j-init : goal.loop-j-init
-loop-j-init c = choosing_none (omega arith) (omega arith) (search rules)
+loop-j-init c = choosing_none (omega arith) (omega arith)
 
 pub loop-j-preserved : goal.loop-j-preserved
 loop-j-preserved c =

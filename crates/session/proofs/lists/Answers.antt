@@ -9,7 +9,7 @@ use Rattle.session.proofs.lists.Goals as goal
 
 pub loop-q-init : goal.loop-q-init
 unfolding marks_from
-loop-q-init c = let a = c.args in (omega arith, refl, lists_none a.state.now a.marks a.at a.out.now, omega arith)
+loop-q-init c = let a = c.args in (refl, lists_none a.state.now a.marks a.at a.out.now, omega arith)
 
 pub loop-q-preserved : goal.loop-q-preserved
 unfolding marks_from
@@ -17,4 +17,4 @@ loop-q-preserved c =
     let inv = c.loop-q.invariant in
     let more = add-one c.loop-q.q in
     let one = c.shown-end.ensures in
-    (omega arith, rw more (ap (λ (l : ℕ). l / 2) inv.1), rw more (lists_next inv.1 inv.2 one.printed), omega arith)
+    (rw more (ap (λ (l : ℕ). l / 2) inv.0), rw more (lists_next inv.0 inv.1 one.printed), omega arith)

@@ -1,4 +1,6 @@
 -- `shown` meets its contract. Assumes nothing.
+use mathlib.Core.Path.{refl}
+use Rattle.engine.proofs.ToldLaws.{numbered}
 use Rattle.session.proofs.TextLaws.{shown_unmarked, shown_unregistered, shown_registered}
 use Rattle.session.proofs.shown.Goals as goal
 
@@ -6,14 +8,12 @@ pub returns-then-not-marked-clause-printed : goal.returns-then-not-marked-clause
 returns-then-not-marked-clause-printed c =
     let a = c.args in shown_unmarked a.state.now a.q a.at a.out.now a.marked c.if-not-marked.true
 
-pub returns-then-listing-ne0-clause-printed : goal.returns-then-listing-ne0-clause-printed
-returns-then-listing-ne0-clause-printed c =
+pub returns-in-Ok-clause-printed : goal.returns-in-Ok-clause-printed
+returns-in-Ok-clause-printed c =
     let a = c.args in
-    let read = c.list-listing in
-    shown_unregistered a.state.now a.q a.at a.out.now a.marked c.if-not-marked.false read.result read.ensures c.if-listing-ne0.true
+    shown_registered a.state.now a.q a.at a.out.now a.marked c.if-not-marked.false _ c.in-Ok.ensures refl c.list-in-Ok.ensures.put
 
-pub returns-clause-printed : goal.returns-clause-printed
-returns-clause-printed c =
+pub returns-in-Err-clause-printed : goal.returns-in-Err-clause-printed
+returns-in-Err-clause-printed c =
     let a = c.args in
-    let read = c.list-listing in
-    shown_registered a.state.now a.q a.at a.out.now a.marked c.if-not-marked.false read.result read.ensures c.if-listing-ne0.false c.list.ensures.put
+    shown_unregistered a.state.now a.q a.at a.out.now a.marked c.if-not-marked.false _ c.in-Err.ensures (numbered c.in-Err.field-0)

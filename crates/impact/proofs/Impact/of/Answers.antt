@@ -20,9 +20,6 @@ parts_most c =
 pub overflow_mul-parts : goal.overflow_mul-parts
 overflow_mul-parts c = let h = parts_most c in search rules
 
-pub overflow_add-parts : goal.overflow_add-parts
-overflow_add-parts c = let h = parts_most c.before in search rules
-
 pub returns-then-squares-eq0 : goal.returns-then-squares-eq0
 returns-then-squares-eq0 c = sym (top_of_none c.args.count c.args.squares (omega arith))
 

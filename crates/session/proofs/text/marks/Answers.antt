@@ -9,14 +9,14 @@ use Rattle.session.proofs.text.marks.Goals as goal
 
 pub put-requires : goal.put-requires
 put-requires c =
-    let e = c.hex-k.ensures in
+    let e = rw c.from.ensures at c.hex-k.ensures in
     let m = fewest_most 16 8 c.args.marked c.hex-k.result 8 (omega arith) e.len (omega arith) (omega arith) in
     omega (arith, e.in_bounds.1, m)
 
 pub returns : goal.returns
 unfolding marks_field
 returns c =
-    let e = c.hex-k.ensures in
+    let e = rw c.from.ensures at c.hex-k.ensures in
     let k = c.hex-k.result in
     let n = c.args.marked in
     let m = fewest_most 16 8 n k 8 (omega arith) e.len (omega arith) (omega arith) in
