@@ -83,7 +83,7 @@ withdrawal log t s sound late fa c fb parts on has = record {
 
     apart : (has_serial s xa ≡ false) × (has_serial s xb ≡ false)
     apart = subst (λ (n : ℕ). (has_serial n xa ≡ false) × (has_serial n xb ≡ false)) has
-      (distinct_parts xa c xb (subst Distinct shown (distinct_at log t sound late)))
+        (distinct_parts xa c xb (subst Distinct shown (distinct_at log t sound late)))
 
     alone : select (named s) (xa ++ (c ∷ xb)) ≡ c ∷ []
     alone =
@@ -95,7 +95,7 @@ withdrawal log t s sound late fa c fb parts on has = record {
     others =
         select_append (unnamed s) xa (c ∷ xb)
         ∙ ap₂ (λ (l : List Message) (b : Bool). l ++ cond (not b) (c ∷ select (unnamed s) xb) (select (unnamed s) xb)) (named_none s xa apart.0).1
-          (eq-eqb c.serial s has)
+        (eq-eqb c.serial s has)
         ∙ ap (λ (l : List Message). xa ++ l) (named_none s xb apart.1).1
 
     noted_there : map (withdrawing s) (fa ++ (c ∷ fb)) ≡ fa ++ (withdrawn c ∷ fb)

@@ -18,13 +18,54 @@ use Rattle.wire.proofs.BitLaws.{length_pack}
 use Rattle.wire.proofs.FieldLaws.{field_lt}
 use Rattle.wire.proofs.LayoutLaws.{scan_spell, pack_scan, total_append, scan_append, scan_parts, fit_append}
 use Rattle.paper.specs.Frame.{
-  Pair, Urgency, Form, Frame, Shape, Pairs, AllFit, Valid, level, urgency_of, message_row, tick_row, register_row,
-  unregister_row, cancel_row, graded_by, graded_row, long_row, no_row, row_of, widths, frame_of, term_width, count_width,
+  Pair,
+  Urgency,
+  Form,
+  Frame,
+  Shape,
+  Pairs,
+  AllFit,
+  Valid,
+  level,
+  urgency_of,
+  message_row,
+  tick_row,
+  register_row,
+  unregister_row,
+  cancel_row,
+  graded_by,
+  graded_row,
+  long_row,
+  no_row,
+  row_of,
+  widths,
+  frame_of,
+  term_width,
+  count_width,
 }
 use Rattle.paper.specs.Frame.{
-  weight_width, pairs_width, long_pairs_width, most_pairs, most_in, most_terms, pair_widths, pair_values, bits_of,
-  bytes_for, fill_after, written, written_by, encode, pairs_at, positive, rises, rising, grades_known, check,
-  shape_of_kind, shape,
+  weight_width,
+  pairs_width,
+  long_pairs_width,
+  most_pairs,
+  most_in,
+  most_terms,
+  pair_widths,
+  pair_values,
+  bits_of,
+  bytes_for,
+  fill_after,
+  written,
+  written_by,
+  encode,
+  pairs_at,
+  positive,
+  rises,
+  rising,
+  grades_known,
+  check,
+  shape_of_kind,
+  shape,
 }
 use Rattle.paper.proofs.Tests.{and_true}
 use Rattle.paper.specs.Frame.Frame.{message, tick, register, unregister, cancel}
@@ -107,7 +148,7 @@ module _ (head : List ℕ) (w : ℕ) where
 
     fit_all : Fit head values → AllFit w ps → Fit (layout (length ps)) all
     fit_all h k = fit_append head _ values _ h
-      (fit_append (pair_widths w (length ps)) _ (pair_values ps) _ (fit_pairs w ps k) (pow_pos (fill_after (bits_of head w (length ps))), tt))
+        (fit_append (pair_widths w (length ps)) _ (pair_values ps) _ (fit_pairs w ps k) (pow_pos (fill_after (bits_of head w (length ps))), tt))
 
     scan_written : Fit head values → AllFit w ps → scan (written head w values ps) 0 (layout (length ps)) ≡ all
     unfolding written
@@ -136,8 +177,16 @@ module _ (head : List ℕ) (w : ℕ) where
     reads_written s h r =
         let m : ℕ = length ps in
         let whole : scan s 0 (layout m) ≡ all =
-        rw (scan_append s 0 head (tail m), zero-add (total head), scan_append s (total head) (pair_widths w m) (fill_after (bits_of head w m) ∷ []),
-          scan_pairs s (total head) w m, total_pairs w m, r.fields, r.pairs, r.fill) in
+        rw (
+          scan_append s 0 head (tail m),
+          zero-add (total head),
+          scan_append s (total head) (pair_widths w m) (fill_after (bits_of head w m) ∷ []),
+          scan_pairs s (total head) w m,
+          total_pairs w m,
+          r.fields,
+          r.pairs,
+          r.fill,
+        ) in
         sym (pack_scan s (layout m) h (total_layout m ∙ ap (λ (n : ℕ). 8 * n) (sym r.long))) ∙ ap₂ pack r.long (ap (spell (layout m)) whole)
 
 -- ---- the checks of any kind
@@ -188,8 +237,11 @@ module _ (s head : List ℕ) (w m : ℕ) where
       (λ fill. or_refused (Sound s) known (inr refl)
       (λ k. or_refused (Sound s) (positive found) (inl (lit≤ tt, lit≤ tt))
       (λ p. or_refused (Sound s) (rising found) (inl (lit≤ tt, lit≤ tt))
-      (λ o. (valid p o, λ h. reads_written head w (scan s 0 head) found s h
-        (found_reads (eqb-true (length s) (bytes_for b) size) (eqb-true (field s b (fill_after b)) 0 fill)) ∙ sym (is k)))))))
+      (λ o. (
+        valid p o,
+        λ h. reads_written head w (scan s 0 head) found s h
+            (found_reads (eqb-true (length s) (bytes_for b) size) (eqb-true (field s b (fill_after b)) 0 fill)) ∙ sym (is k),
+      ))))))
 
 -- the pairs that follow a field for their number less one
 module _ (s : List ℕ) (at w n : ℕ) where
@@ -267,10 +319,17 @@ graded_sound s k w form most is e =
     check_sound s (widths (graded_by w)) count_width (field s 58 w + 1) (leb (field s 56 2) 2 && true)
     (message (field s 4 32) (field s 36 20) (form u))
     (λ p o.
-      record { time = field_lt s 4 32; serial = field_lt s 36 20;
-        pairs = pairs_valid s at count_width (field s 58 w) (most_in (form u)) (lt_of_lt_of_le (field_lt s 58 w) (most u)) p o })
-    (λ known. rw (is _ _ _ _, e, less_one s at count_width (field s 58 w),
-      level_of (field s 56 2) (leb-true (field s 56 2) 2 (and_true (leb (field s 56 2) 2) true known).0)))
+    record {
+      time = field_lt s 4 32;
+      serial = field_lt s 36 20;
+      pairs = pairs_valid s at count_width (field s 58 w) (most_in (form u)) (lt_of_lt_of_le (field_lt s 58 w) (most u)) p o;
+    })
+    (λ known. rw (
+      is _ _ _ _,
+      e,
+      less_one s at count_width (field s 58 w),
+      level_of (field s 56 2) (leb-true (field s 56 2) 2 (and_true (leb (field s 56 2) 2) true known).0),
+    ))
 
 kind_sound : (s : List ℕ) (k : ℕ) → field s 0 4 ≡ k → Sound s (shape_of_kind k s)
 unfolding shape_of_kind row_of frame_of encode scan total pairs_at grades_known
@@ -278,8 +337,11 @@ kind_sound s =
     by_kind (λ k. field s 0 4 ≡ k → Sound s (shape_of_kind k s))
     (λ e. check_sound s (widths message_row) count_width (field s 56 4 + 1) true (message (field s 4 32) (field s 36 20) ungraded)
     (λ p o.
-      record { time = field_lt s 4 32; serial = field_lt s 36 20;
-        pairs = pairs_valid s 60 count_width (field s 56 4) (most_in ungraded) (field_lt s 56 4) p o })
+    record {
+      time = field_lt s 4 32;
+      serial = field_lt s 36 20;
+      pairs = pairs_valid s 60 count_width (field s 56 4) (most_in ungraded) (field_lt s 56 4) p o;
+    })
     (λ _. rw (e, less_one s 60 count_width (field s 56 4))))
     (λ e. check_sound s (widths tick_row) 0 0 true (λ _. tick (field s 4 32)) (λ _ _. field_lt s 4 32) (λ _. rw e))
     (λ e. check_sound s (widths register_row) weight_width (field s 45 3 + 1) true (register (field s 4 32) (field s 36 5) (field s 41 4 + 1))
@@ -292,7 +354,7 @@ kind_sound s =
     })
     (λ _. rw (e, less_one s 48 weight_width (field s 45 3), add-sub_cancel (field s 41 4) 1)))
     (λ e. check_sound s (widths unregister_row) 0 0 true (λ _. unregister (field s 4 32) (field s 36 5))
-      (λ _ _. (field_lt s 4 32, field_lt s 36 5)) (λ _. rw e))
+    (λ _ _. (field_lt s 4 32, field_lt s 36 5)) (λ _. rw e))
     (λ e. check_sound s (widths cancel_row) 0 0 true (λ _. cancel (field s 4 32) (field s 36 20)) (λ _ _. (field_lt s 4 32, field_lt s 36 20)) (λ _. rw e))
     (graded_sound s 6 pairs_width graded (λ _. lit≤ tt) (λ t n u ps. refl))
     (graded_sound s 7 long_pairs_width long (λ _. lit≤ tt) (λ t n u ps. refl))

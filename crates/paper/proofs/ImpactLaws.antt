@@ -2,8 +2,18 @@
 -- Assumes nothing.
 use Prim.Native.Nat.{ℕ, zero, suc, ◌+◌, ◌*◌, ◌≤◌, ◌<◌}
 use native.Mathlib.Nat.{
-  zero-mul, le_refl, le_trans, lt_of_lt_of_le, mul-le-mul, mul-le-mul_left, mul-lt-mul_of_pos_right, mul-mul-mul_comm,
-  not-le_of_lt, le_of_lt, not-suc-le-zero, mul-pos,
+  zero-mul,
+  le_refl,
+  le_trans,
+  lt_of_lt_of_le,
+  mul-le-mul,
+  mul-le-mul_left,
+  mul-lt-mul_of_pos_right,
+  mul-mul-mul_comm,
+  not-le_of_lt,
+  le_of_lt,
+  not-suc-le-zero,
+  mul-pos,
 }
 use native.Mathlib.Omega.{arith}
 use mathlib.Core.Path.{◌≡◌, refl, sym, ap, ◌∙◌}

@@ -19,15 +19,35 @@ use Rattle.paper.specs.Order.{Split}
 use Rattle.paper.specs.Order.Split.{empty, goes, remains}
 use Rattle.paper.specs.Rank.{Query}
 use Rattle.paper.specs.Log.{
-  Log, Call, fresh, in_force_now, in_force_at, filled_now, filled_at, has_serial, time_of, judge_kind, judge_frame,
-  judge_shape, lent, judge,
+  Log,
+  Call,
+  fresh,
+  in_force_now,
+  in_force_at,
+  filled_now,
+  filled_at,
+  has_serial,
+  time_of,
+  judge_kind,
+  judge_frame,
+  judge_shape,
+  lent,
+  judge,
 }
 use Rattle.paper.specs.Log.{arrivals, cancels, queries_after, accept, accept_shape, after, replay, departs, stays, seen, moved_for}
 use Rattle.paper.specs.Sound.{From, Chronological, Distinct, Messages, Terms, Queries, Sound}
 use Rattle.paper.proofs.FrameLaws.{shape_valid, form_most}
 use Rattle.paper.proofs.WindowLaws.{
-  active, filling_true, staying, staying_none, filled_append, vacating, vacating_staying, departing_remaining,
-  remaining_staying, departing_vacating,
+  active,
+  filling_true,
+  staying,
+  staying_none,
+  filled_append,
+  vacating,
+  vacating_staying,
+  departing_remaining,
+  remaining_staying,
+  departing_vacating,
 }
 use Rattle.paper.proofs.WindowLaws.{in_force_filled, in_force_noting, named, unnamed, withdrawing, filled_noting, remaining_unnamed, departing_named}
 
@@ -292,7 +312,7 @@ new_serial log t s g ps sound ok =
 distinct_after : (log : Log) (f : Frame) → Sound log → judge_frame log f ≡ 0 → Distinct (stays log f ++ arrivals f)
 distinct_after log (message t s g ps) sound ok =
     distinct_snoc (stays log (message t s g ps)) (arrival t s (grade_of g) ps) (distinct_stays log (message t s g ps) sound ok)
-      (new_serial log t s g ps sound ok)
+    (new_serial log t s g ps sound ok)
 distinct_after log (tick t) sound ok = rw append-nil (distinct_stays log (tick t) sound ok)
 distinct_after log (register t n k ps) sound ok = rw append-nil (distinct_stays log (register t n k ps) sound ok)
 distinct_after log (unregister t n) sound ok = rw append-nil (distinct_stays log (unregister t n) sound ok)

@@ -22,8 +22,22 @@ use Rattle.paper.specs.Order.{In}
 use Rattle.paper.specs.Threshold.{Kept, reached}
 use Rattle.paper.specs.Log.{Log, Call, query_at, is_in_use, judge_shape, judge_frame, judge_kind, judge, accept, accept_shape, after, seen}
 use Rattle.paper.specs.Demand3.{
-  Keeping, SettledAt, AllSettled, names, reached_by, marked, bitmap, Reply, marks_shape, reply_to, marked_shape,
-  marked_by, moved_shape, moved, ExceedsKept, Answered,
+  Keeping,
+  SettledAt,
+  AllSettled,
+  names,
+  reached_by,
+  marked,
+  bitmap,
+  Reply,
+  marks_shape,
+  reply_to,
+  marked_shape,
+  marked_by,
+  moved_shape,
+  moved,
+  ExceedsKept,
+  Answered,
 }
 use Rattle.paper.proofs.Tests.{by_bool, not_refused}
 use Rattle.paper.proofs.LogLaws.{shape_judged}
@@ -143,7 +157,7 @@ answered_by_log needed log kept c r kept' settled e unmarked =
           ∙ marked_reached log kept n q q' before needed c after'
           ∙ ap (λ (x : Option Query). reached_by x (kept n) (moved needed log c)) before in
           let x = reached_kept q (seen log) (kept n) (moved needed log c)
-            (subst (λ (y : Option Query). SettledAt y (seen log) (kept n)) before (settled n l)) in
+          (subst (λ (y : Option Query). SettledAt y (seen log) (kept n)) before (settled n l)) in
           (λ h. x.0 (sym is ∙ h), λ h. is ∙ x.1 h);
       unmarked = unmarked;
     }

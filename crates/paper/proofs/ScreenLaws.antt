@@ -249,7 +249,7 @@ module _ (B : ℕ) (qs : List Queue) (apart : Apart (numbers_of qs)) where
         let e : own q.number (screen B qs) ≡ own q.number (rounds m qs) ++ own q.number (take (B - length (rounds m qs)) part.0) =
         ap (λ (l : List ScreenLine). own q.number (take B l)) part.1
         ∙ ap (own q.number) (take_two B (rounds m qs) part.0
-          ∙ ap (λ (l : List ScreenLine). l ++ take (B - length (rounds m qs)) part.0) (take_all B (rounds m qs) few))
+        ∙ ap (λ (l : List ScreenLine). l ++ take (B - length (rounds m qs)) part.0) (take_all B (rounds m qs) few))
         ∙ own_append q.number (rounds m qs) (take (B - length (rounds m qs)) part.0) in
         omega (arith, simp length-append at (ap length e), ap length (own_rounds m q qs i apart), length-take m q.unplaced, longest_least q qs i)
 

@@ -23,8 +23,20 @@ use Rattle.paper.specs.Threshold.{threshold_sum, exceeds_by, exceeds, last_score
 use Rattle.paper.specs.Log.{Log, query_at, seen, has_serial, cancels, accept, list_of}
 use Rattle.paper.specs.Sound.{Distinct, Terms, Sound}
 use Rattle.paper.specs.Search.{
-  postings_of, count_in, next, products, highest, highest_at, next_at, without, messages_of, seen_by, ends, Outcome,
-  search_on, search,
+  postings_of,
+  count_in,
+  next,
+  products,
+  highest,
+  highest_at,
+  next_at,
+  without,
+  messages_of,
+  seen_by,
+  ends,
+  Outcome,
+  search_on,
+  search,
 }
 use Rattle.paper.proofs.Tests.{by_bool, and_true, or_true}
 use Rattle.paper.proofs.SortLaws.{in_map, from_map, select_all, select_in, in_select, select_length, sort_in, in_sort, length_sort}
@@ -289,7 +301,7 @@ module _ (qs : List Pair) (left : List (List Entry)) (n s : ℕ) where
       rw (fronts qs left, sum_products qs (map next left), e)
       (ap (λ (vss : List (List ℕ)). suc (steps n s vss))
       (sym (without_weighed (weights qs) (next_at qs left) (impacts left))
-        ∙ ap (weighed (weights qs)) (without_map (λ (e : Entry). e.score) (next_at qs left) left)))
+      ∙ ap (weighed (weights qs)) (without_map (λ (e : Entry). e.score) (next_at qs left) left)))
 
 -- ---- messages by their serials
 

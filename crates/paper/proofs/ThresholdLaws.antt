@@ -20,8 +20,17 @@ use Rattle.paper.specs.Rank.{Query, Entry, ahead, entry, scoring, entries, ranki
 use Rattle.paper.specs.Threshold.{term_at, threshold_sum, Exceeds, exceeds_by, exceeds, candidates, reached, last_score, Tight, Kept, Settled}
 use Rattle.paper.proofs.Tests.{by_bool, or_false, or_true}
 use Rattle.paper.proofs.SortLaws.{
-  in_left, in_right, select_all, select_in, select_take, select_among, select_select, select_change, select_map,
-  count_sort, best,
+  in_left,
+  in_right,
+  select_all,
+  select_in,
+  select_take,
+  select_among,
+  select_select,
+  select_change,
+  select_map,
+  count_sort,
+  best,
 }
 use Rattle.paper.proofs.FrameLaws.{level_most}
 use Rattle.paper.proofs.RankLaws.{ranking_length, ranking_last}
@@ -165,7 +174,7 @@ module _ (q : Query) where
     unfolding ranking
     full_above ms full h =
         let listed : select (above s) (ranking q ms) ≡ ranking q ms =
-          select_all (above s) (ranking q ms) (λ e m. omega (arith, ranking_last q ms e m, lt-ltb)) in
+        select_all (above s) (ranking q ms) (λ e m. omega (arith, ranking_last q ms e m, lt-ltb)) in
         omega (arith, ap length listed, select_take (above s) q.k (sort ahead (scored ms)), count_sort ahead (above s) (scored ms))
 
     scoring_above : s ≡ 0 → (ms : List Message) → select (above s) (scored ms) ≡ scored ms

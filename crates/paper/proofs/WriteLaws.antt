@@ -11,19 +11,63 @@ use lib.ListN.{length, length-map}
 use lib.Dec.{leb, ltb, lit≤}
 use borrow.Author.Tests.{ltb-true, leb-true, lt-ltb, le-leb}
 use Rattle.paper.specs.Frame.{
-  Pair, Urgency, Form, Frame, Fields, Row, Pairs, AllFit, Valid, level, urgency_of, no_row, row_of, message_row,
-  tick_row, register_row, unregister_row,
+  Pair,
+  Urgency,
+  Form,
+  Frame,
+  Fields,
+  Row,
+  Pairs,
+  AllFit,
+  Valid,
+  level,
+  urgency_of,
+  no_row,
+  row_of,
+  message_row,
+  tick_row,
+  register_row,
+  unregister_row,
 }
 use Rattle.paper.specs.Frame.{
-  cancel_row, graded_by, graded_row, long_row, frame_of, grades_known, judged, written_by, pairs_width, long_pairs_width,
-  count_width, weight_width, most_pairs, most_in, most_terms, encode, shape, positive, rises, rising,
+  cancel_row,
+  graded_by,
+  graded_row,
+  long_row,
+  frame_of,
+  grades_known,
+  judged,
+  written_by,
+  pairs_width,
+  long_pairs_width,
+  count_width,
+  weight_width,
+  most_pairs,
+  most_in,
+  most_terms,
+  encode,
+  shape,
+  positive,
+  rises,
+  rising,
 }
 use Rattle.paper.specs.Frame.Frame.{message, tick, register, unregister, cancel}
 use Rattle.paper.specs.Frame.Form.{ungraded, graded, long}
 use Rattle.paper.specs.Frame.Shape.{refused, accepted}
 use Rattle.paper.specs.Write.{
-  side_by_side, all_within, head_within, value_of, pairs_taken, pairs_within, pairs_of, pairs_in, from_kind, from_fields,
-  fields_for, fields_with, fields_of,
+  side_by_side,
+  all_within,
+  head_within,
+  value_of,
+  pairs_taken,
+  pairs_within,
+  pairs_of,
+  pairs_in,
+  from_kind,
+  from_fields,
+  fields_for,
+  fields_with,
+  fields_of,
 }
 use Rattle.paper.proofs.FrameLaws.{or_refused, Judged, by_kind, level_of, level_most, of_level, shape_encode}
 
@@ -105,7 +149,7 @@ graded_sound x w form most =
       pairs =
           let few : x.pairs ≤ 2 ^ w = search facts in
           pairs_within_lem count_width (most_in (form u)) x.pairs x.terms x.amounts (search facts) (le_trans few (most u)) (search facts)
-            (search facts) (search facts) o;
+          (search facts) (search facts) o;
     })
 
 kind_sound : (x : Fields) (k : ℕ) → Judged 2 Valid (from_kind k x)
@@ -123,7 +167,7 @@ kind_sound x =
     }))
     (judged_sound true (head_within tick_row.head x && pairs_within tick_row x) (side_by_side 0 ts us) (tick x.time) (λ e _. search facts))
     (judged_sound true (head_within register_row.head x && pairs_within register_row x) (side_by_side m ts us)
-      (register x.time x.number (x.k - 1 + 1) (side_by_side m ts us)) (λ e o.
+    (register x.time x.number (x.k - 1 + 1) (side_by_side m ts us)) (λ e o.
     let l : 0 < x.k = search facts in
     let u : x.k ≤ 2 ^ 4 = search facts in
     record {
@@ -134,9 +178,9 @@ kind_sound x =
       terms = pairs_within_lem weight_width most_terms m ts us (search facts) (search facts) (search facts) (search facts) (search facts) o;
     }))
     (judged_sound true (head_within unregister_row.head x && pairs_within unregister_row x) (side_by_side 0 ts us) (unregister x.time x.number)
-      (λ e _. (search facts, search facts)))
+    (λ e _. (search facts, search facts)))
     (judged_sound true (head_within cancel_row.head x && pairs_within cancel_row x) (side_by_side 0 ts us) (cancel x.time x.serial)
-      (λ e _. (search facts, search facts)))
+    (λ e _. (search facts, search facts)))
     (graded_sound x pairs_width graded (λ _. lit≤ tt))
     (graded_sound x long_pairs_width long (λ _. lit≤ tt))
     (λ k none. rw (unknown_kind x k none) (inl (lit≤ tt, lit≤ tt)))

@@ -1,8 +1,31 @@
 -- The frame: its fields, its bytes, and what any list of bytes is as a frame.
 -- Document 01, "The frame", and document 02, T-02, T-04 and T-06. Assumes nothing.
 use Rattle.std.specs.Prelude.{
-  ℕ, zero, suc, ◌+◌, ◌-◌, ◌*◌, ◌/◌, ◌^◌, ◌≤◌, ◌<◌, ◌≡◌, Bool, true, cond, ◌&&◌, List, [], ◌∷◌, ◌++◌, map, length, get_or,
-  eqb, leb, ltb,
+  ℕ,
+  zero,
+  suc,
+  ◌+◌,
+  ◌-◌,
+  ◌*◌,
+  ◌/◌,
+  ◌^◌,
+  ◌≤◌,
+  ◌<◌,
+  ◌≡◌,
+  Bool,
+  true,
+  cond,
+  ◌&&◌,
+  List,
+  [],
+  ◌∷◌,
+  ◌++◌,
+  map,
+  length,
+  get_or,
+  eqb,
+  leb,
+  ltb,
 }
 use Rattle.wire.specs.Bits.{pack}
 use Rattle.wire.specs.Field.{field, total, spell, scan}

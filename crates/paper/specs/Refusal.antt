@@ -2,7 +2,20 @@
 use Rattle.std.specs.Prelude.{ℕ}
 use Rattle.paper.specs.declared.refusal.Refusal.{Refusal}
 use Rattle.paper.specs.declared.refusal.Refusal.TheVariants.{
-  Short, Kind, Length, Fill, Value, Order, Time, Serial, InUse, NotInUse, Start, Memory, NotInForce, Urgency,
+  Short,
+  Kind,
+  Length,
+  Fill,
+  Value,
+  Order,
+  Time,
+  Serial,
+  InUse,
+  NotInUse,
+  Start,
+  Memory,
+  NotInForce,
+  Urgency,
 }
 
 abbrev pub number_of : Refusal → ℕ

@@ -24,4 +24,3 @@ loop-low-preserved c =
     let e = entry ((l.low + l.high + 1) / 2) (omega arith) in
     omega arith in
     let e = looked in lower_half c.loop-low.invariant (omega arith) (omega arith) (omega arith)
-

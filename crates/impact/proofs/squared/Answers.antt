@@ -27,4 +27,3 @@ loop-count-init c = (omega arith, omega arith)
 
 pub loop-count-preserved : goal.loop-count-preserved
 loop-count-preserved c = let h = taken c in (h.1, omega arith)
-
