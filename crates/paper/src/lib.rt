@@ -1,4 +1,5 @@
-// What the engine promises, as definitions: specs/ follows the document, proofs/ has their laws. The only code is the sizes and the refusals that other code shares.
+// What the engine promises, as definitions: specs/ follows the document, proofs/ has their laws. The only code is the sizes and the refusals that
+// other code shares.
 #![tactic(auto)]
 
 pub mod layout;

@@ -517,7 +517,8 @@ pub fn register(state: &mut State, q: usize, query: Query, messages: Span)
     requires in_bounds { (q < numbers) × (messages.count < slots) }
     requires in_range { (1 ≤ query.k) × (query.k ≤ most_listed) × (1 ≤ query.n) }
     requires pairs_fit { (i : ℕ) → i < query.n → (get_or query.terms i 0 < term_limit) × (get_or query.weights i 0 < weight_limit) }
-    ensures { Registered (words state.old) q messages.first messages.count (record { k = query.k; terms = side_by_side query.n query.terms query.weights }) (words state.new) }
+    ensures { Registered (words state.old) q messages.first messages.count
+        (record { k = query.k; terms = side_by_side query.n query.terms query.weights }) (words state.new) }
 {
     put_query(state, q, query);
     let query = load_query(state, q);

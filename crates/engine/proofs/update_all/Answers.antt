@@ -11,7 +11,10 @@ returns c =
     record {
       coming = _;
       going = _;
-      tables = record { new = table_of c.raise_newest.ensures.1; old = table_leaving (words a.state.now) (in_slots a.moved) c.raise_all.ensures.1 c.silence.ensures.raised.1 };
+      tables = record {
+        new = table_of c.raise_newest.ensures.1;
+        old = table_leaving (words a.state.now) (in_slots a.moved) c.raise_all.ensures.1 c.silence.ensures.raised.1;
+      };
       silent = _;
       silenced = c.silence.ensures.silenced;
       passed = c.pass.ensures;
