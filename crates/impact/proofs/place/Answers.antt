@@ -1,6 +1,5 @@
 -- `place` meets its contract. Assumes nothing.
 use Prim.Native.Nat.{◌+◌, ◌*◌, ◌/◌}
-use native.Mathlib.Nat.{le_refl}
 use native.Mathlib.Omega.{arith}
 use mathlib.Core.Path.{◌≡◌}
 use Rattle.impact.proofs.Places.{upper_half, lower_half}
@@ -24,4 +23,3 @@ loop-low-preserved c =
     let e = entry ((l.low + l.high + 1) / 2) (omega arith) in
     omega arith in
     let e = looked in lower_half c.loop-low.invariant (omega arith) (omega arith) (omega arith)
-
