@@ -19,8 +19,19 @@ use Rattle.paper.proofs.FrameLaws.{rises_parts}
 use Rattle.paper.proofs.ImpactLaws.{impact_most}
 use Rattle.paper.proofs.WriteLaws.{length_side}
 use Rattle.impact.specs.Cell.{
-  impact_width, packed, cell_term, cell_impact, cell_count, cell_of, cells_of, squares_of, cell_squares, cell_with,
-  lookup, RisingCells, RisingTerms,
+  impact_width,
+  packed,
+  cell_term,
+  cell_impact,
+  cell_count,
+  cell_of,
+  cells_of,
+  squares_of,
+  cell_squares,
+  cell_with,
+  lookup,
+  RisingCells,
+  RisingTerms,
 }
 
 -- ---- a cell and its parts
@@ -58,7 +69,7 @@ module _ (n : ℕ) where
     where
       go : (b : Bool) → 0 < p.amount → lookup t (map (cell_of n) ps) ≡ cond (eqb (count_of t ps) 0) 0 (impact (count_of t ps) n)
           → cond b (impact p.amount n) (lookup t (map (cell_of n) ps)) ≡ cond (eqb (cond b p.amount (count_of t ps)) 0) 0
-            (impact (cond b p.amount (count_of t ps)) n)
+          (impact (cond b p.amount (count_of t ps)) n)
       go true h ih = rw (ne_eqb p.amount 0 (λ z. omega arith))
       go false h ih = ih
 

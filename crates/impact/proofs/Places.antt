@@ -58,7 +58,7 @@ pub place_found : (f n most w last : ℕ) → 0 < n → most ≡ (top * f) * (to
     → (w ≤ last) × (w * w ≤ most) × ((v : ℕ) → v ≤ last → v * v ≤ most → v ≤ w) → w ≡ impact f n
 place_found f n most w last h e t i r =
     le_antisymm (impact_from f n w (le_trans r.0 t) ((le-div_iff_mul-le h).0 (rw e at r.1)))
-      (r.2 (impact f n) i (rw e ((le-div_iff_mul-le h).1 (impact_meets f n))))
+    (r.2 (impact f n) i (rw e ((le-div_iff_mul-le h).1 (impact_meets f n))))
 
 pub top_of_none : (f n : ℕ) → n ≡ 0 → impact f n ≡ top
 top_of_none f n z = le_antisymm (impact_most f n) (impact_from f n top (le_refl top) (rw (z, mul-zero) (omega arith)))
@@ -95,7 +95,7 @@ module _ (f n u : ℕ) (positive : 0 < n) where
       go (suc g) e l =
           let o : f * (u + 1) ≤ w * fine = rw (mul-add f u 1, mul-one) (omega arith) in
           let s : f * f * ((u + 1) * (u + 1)) ≤ w * w * (fine * fine) =
-            rw (mul-mul-mul_comm f (u + 1) f (u + 1), mul-mul-mul_comm w fine w fine) at (mul-le-mul o o) in
+          rw (mul-mul-mul_comm f (u + 1) f (u + 1), mul-mul-mul_comm w fine w fine) at (mul-le-mul o o) in
           let a : f * f * ((u + 1) * (u + 1)) * n ≤ w * w * (fine * fine) * n = mul-le-mul_right n s in
           let b : f * f * (reach * reach) < f * f * ((u + 1) * (u + 1) * n) = mul-lt-mul_of_pos_left h (mul-pos (omega arith) (omega arith)) in
           let m : w * w * n ≤ top * top * (f * f) = rw (mul-mul-mul_comm top f top f) at (impact_meets f n) in
