@@ -1,26 +1,7 @@
 -- Newton's iteration for a root in whole numbers: no guess after a step is below the root, and where none falls any more the root is found.
 -- Assumes nothing.
 use Prim.Native.Nat.{ℕ, zero, suc, ◌+◌, ◌*◌, ◌/◌, ◌≤◌, ◌<◌, min}
-use native.Mathlib.Nat.{
-  add-mul,
-  mul-add,
-  div-one,
-  not-suc-le-zero,
-  lt-suc_self,
-  le_refl,
-  le_of_lt,
-  lt_of_le_of_lt,
-  lt_of_lt_of_le,
-  not-le_of_lt,
-  lt_of_not-le,
-  le_of_suc-le-suc,
-  mul-le-mul,
-  mul-le-mul_right,
-  min-le_left,
-  min-eq_left,
-  min-eq_right,
-  div-lt_iff_lt-mul,
-}
+use native.Mathlib.Nat.{add-mul, mul-add, div-one, not-suc-le-zero, lt-suc_self, le_refl, le_of_lt, lt_of_le_of_lt, lt_of_lt_of_le, not-le_of_lt, lt_of_not-le, le_of_suc-le-suc, mul-le-mul, mul-le-mul_right, min-eq_left, min-eq_right, div-lt_iff_lt-mul}
 use native.Mathlib.Omega.{arith}
 use mathlib.Core.Path.{◌≡◌, refl, ◌∙◌}
 use mathlib.Core.Bool.{Bool, true, false}
@@ -86,8 +67,3 @@ stepped {cap} {x} {r} {q} p g e = go (leb mean cap) refl
         let l = leb-false mean cap t in
         let m : q ≡ cap = e ∙ min-eq_right (le_of_lt l) in
         rw m ((g.0, let a = g.1 in let b = g.2 in omega arith, le_refl cap), lt_of_le_of_lt g.0 (square_less cap))
-
-pub step_falls : (cap : ℕ) {x r q : ℕ} → x < r * r → 0 < r → q ≡ step cap x r → q < r
-step_falls cap {x} {r} l h e =
-    let d : x / r < r = (div-lt_iff_lt-mul h).1 l in
-    rw e (lt_of_le_of_lt (min-le_left _ cap) (omega arith))

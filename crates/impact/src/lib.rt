@@ -89,6 +89,7 @@ fn most_square(count: u32, squares: u32) -> u64
 }
 
 // The greatest place from `first` to `last` whose entry is at most `most`.
+// By hand: for `partition_point` the table has to be shown in order as a slice too, and nothing else needs that.
 fn place(first: u32, last: u32, most: u64) -> u32
     requires { (first ≤ last) × (last ≤ top) × (first * first ≤ most) }
     ensures { (result ≤ last) × (result * result ≤ most) × ((v : ℕ) → v ≤ last → v * v ≤ most → v ≤ result) }

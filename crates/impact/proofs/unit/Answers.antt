@@ -1,12 +1,11 @@
 -- `unit` meets its contract. Assumes nothing.
 use Prim.Native.Nat.{ℕ, ◌-◌, ◌*◌, ◌/◌, ◌^◌, ◌≤◌, ◌<◌}
-use native.Mathlib.Nat.{mul-le-mul, div-le_self, le-div_iff_mul-le, div-lt_iff_lt-mul}
+use native.Mathlib.Nat.{div-le_self, le-div_iff_mul-le, div-lt_iff_lt-mul}
 use native.Mathlib.Omega.{arith}
 use lib.Count.{count_leading_zeros, leading_le}
 use lib.Pow.{pow_pos, pow_mono}
-use borrow.Author.Rules.{rules}
 use Rattle.impact.specs.Table.{reach}
-use Rattle.impact.proofs.Newton.{stepped, step_falls}
+use Rattle.impact.proofs.Newton.{stepped}
 use Rattle.impact.proofs.unit.Goals as goal
 
 -- half the bits of n
