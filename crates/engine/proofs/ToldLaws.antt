@@ -5,34 +5,17 @@ use mathlib.Core.Bool.{false}
 use mathlib.Core.List.{[]}
 use lib.ListN.{get_or, replicate}
 use lib.Dec.{eqb}
-use borrow.Author.Tests.{eqb-false}
+use borrow.Author.Tests.{ne_eqb}
 use Rattle.paper.specs.declared.refusal.Refusal.{Refusal}
-use Rattle.paper.specs.declared.refusal.Refusal.TheVariants.{Short, Kind, Length, Fill, Value, Order, Time, Serial}
-use Rattle.paper.specs.declared.refusal.Refusal.TheVariants.{InUse, NotInUse, Start, Memory, NotInForce, Urgency}
 use Rattle.paper.specs.Frame.{most_listed}
 use Rattle.paper.specs.Refusal.{number_of}
 use Rattle.rank.specs.Listing.{listed, lines_of, TidyLines}
+use Rattle.frame.proofs.ReadLaws.{refusal_pos}
 use Rattle.engine.specs.Told.{no_entry}
 
 -- none is that of an answer
 pub not_0 : (e : Refusal) → eqb (number_of e) 0 ≡ false
-not_0 Short = refl
-not_0 Kind = refl
-not_0 Length = refl
-not_0 Fill = refl
-not_0 Value = refl
-not_0 Order = refl
-not_0 Time = refl
-not_0 Serial = refl
-not_0 InUse = refl
-not_0 NotInUse = refl
-not_0 Start = refl
-not_0 Memory = refl
-not_0 NotInForce = refl
-not_0 Urgency = refl
-
-pub numbered : (e : Refusal) → number_of e ≡ 0 → ⊥
-numbered e = eqb-false (number_of e) 0 (not_0 e)
+not_0 e = ne_eqb (number_of e) 0 (refusal_pos e)
 
 pub zeros_at : (n i : ℕ) → get_or {A = ℕ} (replicate n 0) i 0 ≡ 0
 zeros_at zero i = refl

@@ -53,7 +53,13 @@ const REACH: u64 = FINE * (Impact::TOP as u64);
 fn place_of(parts: u64) -> u32
     ensures { result ≡ min (parts / fine) top }
 {
-    (parts / FINE).min(Impact::TOP as u64) as u32
+    // not as a `min`, with which an impact takes longer
+    let place = parts / FINE;
+    if place < Impact::TOP as u64 {
+        place as u32
+    } else {
+        Impact::TOP
+    }
 }
 
 // A step of Newton's iteration for the root of `most`, which is no more than the parts of the scale.

@@ -129,7 +129,7 @@ fn main(rt: HostRuntime) -> Result<()> {
     }
     let mut state = [0u8; paper::layout::STATE];
     let capacity = u32::from(header[0]) + 1;
-    let life = u32::from(header[1]) * 256 + u32::from(header[2]);
+    let life = u32::from(u16::from_be_bytes([header[1], header[2]]));
     if let Err(refusal) = engine::start(&mut state, capacity, life) {
         return print_refusal(&rt, refusal);
     }

@@ -1,6 +1,6 @@
 -- `shown` meets its contract. Assumes nothing.
 use mathlib.Core.Path.{refl}
-use Rattle.engine.proofs.ToldLaws.{numbered}
+use Rattle.frame.proofs.ReadLaws.{refusal_pos}
 use Rattle.session.proofs.TextLaws.{shown_unmarked, shown_unregistered, shown_registered}
 use Rattle.session.proofs.shown.Goals as goal
 
@@ -16,4 +16,4 @@ returns-in-Ok-clause-printed c =
 pub returns-in-Err-clause-printed : goal.returns-in-Err-clause-printed
 returns-in-Err-clause-printed c =
     let a = c.args in
-    shown_unregistered a.state.now a.q a.at a.out.now a.marked c.if-not-marked.false _ c.in-Err.ensures (numbered c.in-Err.field-0)
+    shown_unregistered a.state.now a.q a.at a.out.now a.marked c.if-not-marked.false _ c.in-Err.ensures (refusal_pos c.in-Err.field-0)
