@@ -12,6 +12,7 @@ ghost use Rattle.window.specs.Slot.{slot};
 ghost use Rattle.closeness.specs.Post.{Counts, most_shared, most_weight_squares, Divided, SlotCloseness};
 
 use candidates::Query;
+use paper::State;
 
 // All of the scale: counts and weights are in proportion.
 const WHOLE: u64 = 1000;
@@ -24,8 +25,8 @@ pub struct Closeness {
 
 impl Closeness {
     // How close the message in slot j is to the query.
-    pub fn of(state: &[u8], j: usize, query: Query) -> Closeness
-        requires { (length state.now ≡ state_length) × (j < slots) × (query.n ≤ most_terms) × Below query.n weight_limit query.weights }
+    pub fn of(state: &State, j: usize, query: Query) -> Closeness
+        requires { (j < slots) × (query.n ≤ most_terms) × Below query.n weight_limit query.weights }
         ensures { SlotCloseness (slot (words state.now) j) query result }
     {
         let n = query.n;
@@ -38,8 +39,8 @@ impl Closeness {
 }
 
 // The message's count in each of the query's terms.
-fn counts_in(state: &[u8], j: usize, query: Query) -> [u32; 8]
-    requires { (length state.now ≡ state_length) × (j < slots) × (query.n ≤ most_terms) }
+fn counts_in(state: &State, j: usize, query: Query) -> [u32; 8]
+    requires { (j < slots) × (query.n ≤ most_terms) }
     ensures { Counts (slot (words state.now) j).cells query result }
 {
     let n = query.n;

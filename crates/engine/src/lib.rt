@@ -21,7 +21,7 @@ ghost use Rattle.engine.specs.Inner.{Silenced, Passed, Followed, Departed, Joine
 use candidates::Query;
 use closeness::Closeness;
 use frame::Kind;
-use paper::{MOST_PAIRS, layout};
+use paper::{MOST_PAIRS, Refusal, State, layout};
 use query::Move;
 use rank::Lines;
 use window::Cursor;
@@ -127,8 +127,8 @@ pub fn start(state: &mut [u8], capacity: u32, life: u32) -> u32
 }
 
 // A table raised to the impacts of the message in slot j, where that is one.
-fn raise_one(state: &[u8], j: usize, table: &mut [u16])
-    requires { (length state.now ≡ state_length) × (length table.old ≡ term_limit) }
+fn raise_one(state: &State, j: usize, table: &mut [u16])
+    requires { length table.old ≡ term_limit }
     ensures { (length table.new ≡ term_limit) × RaisedBy (map (slot (words state.now)) (arriving j)) table.old table.new }
 {
     if j < layout::SLOTS {
@@ -137,8 +137,7 @@ fn raise_one(state: &[u8], j: usize, table: &mut [u16])
 }
 
 // The message in slot j is cancelled, where that is one.
-fn silence(state: &mut [u8], j: usize)
-    requires { length state.old ≡ state_length }
+fn silence(state: &mut State, j: usize)
     ensures { Silenced j (words state.old) (words state.new) }
 {
     if j < layout::SLOTS {
@@ -147,8 +146,7 @@ fn silence(state: &mut [u8], j: usize)
 }
 
 // Every registered query is updated where the frame reaches it; the marks of those.
-fn pass(state: &mut [u8], moved: Move, coming: &[u16], going: &[u16]) -> u32
-    requires state_len { length state.old ≡ state_length }
+fn pass(state: &mut State, moved: Move, coming: &[u16], going: &[u16]) -> u32
     requires gone_lt_slots { (moved.gone < slots) × (moved.first < slots) × (moved.count < slots) }
     requires coming_len { (length coming.now ≡ term_limit) × (length going.now ≡ term_limit) }
     ensures { Passed numbers (words state.old) moved coming.now going.now result (words state.new) }
@@ -167,8 +165,7 @@ fn pass(state: &mut [u8], moved: Move, coming: &[u16], going: &[u16]) -> u32
 }
 
 // The queries follow a move. What comes and what goes is looked up in tables, made once for all, while a cancelled message still has what it had.
-fn update_all(state: &mut [u8], moved: Move) -> u32
-    requires state_len { length state.old ≡ state_length }
+fn update_all(state: &mut State, moved: Move) -> u32
     requires gone_lt_slots { (moved.gone < slots) × (moved.first < slots) × (moved.count < slots) }
     ensures { Followed (words state.old) moved result (words state.new) }
 {
@@ -182,8 +179,7 @@ fn update_all(state: &mut [u8], moved: Move) -> u32
 }
 
 // How many messages can be in force, at most as many as the ring has room for whatever memory holds.
-fn capacity_of(state: &[u8]) -> u32
-    requires { length state.now ≡ state_length }
+fn capacity_of(state: &State) -> u32
     ensures { (result ≤ most_messages) × (get_or (words state.now) capacity_at 0 ≤ most_messages → result ≡ get_or (words state.now) capacity_at 0) }
 {
     let capacity = memory::get(state, layout::CAPACITY);
@@ -196,7 +192,7 @@ fn capacity_of(state: &[u8]) -> u32
 
 // A message joins the window in the slot after those that stay: never one that departs with it, which the queries still look at.
 fn join(
-    state: &mut [u8],
+    state: &mut State,
     before: Cursor,
     after: Cursor,
     time: u32,
@@ -206,7 +202,7 @@ fn join(
     terms: [u16; MOST_PAIRS],
     counts: [u8; MOST_PAIRS],
 ) -> Reply
-    requires state_len { (length state.old ≡ state_length) × (urgency ≤ level vital) × (m ≤ most_pairs) }
+    requires in_bounds { (urgency ≤ level vital) × (m ≤ most_pairs) }
     requires by_index { (i : ℕ) → i < m → (get_or terms i 0 < 2 ^ term_width) × (get_or counts i 0 < 2 ^ count_width) }
     requires oldest_lt_slots { (before.oldest < slots) × (before.count < slots) × (after.count < most_messages)
         × Moved before.oldest before.count after.oldest after.count }
@@ -240,7 +236,7 @@ fn join(
 
 // A message in any of its forms: of these the log keeps the urgency alone.
 fn message(
-    state: &mut [u8],
+    state: &mut State,
     time: u32,
     serial: u32,
     urgency: u32,
@@ -248,7 +244,7 @@ fn message(
     terms: [u16; MOST_PAIRS],
     counts: [u8; MOST_PAIRS],
 ) -> Reply
-    requires state_len { (length state.old ≡ state_length) × (urgency ≤ level vital) }
+    requires in_bounds { urgency ≤ level vital }
     requires le_m { (1 ≤ m) × (m ≤ most_pairs) }
     requires by_index { (i : ℕ) → i < m → (get_or terms i 0 < 2 ^ term_width) × (get_or counts i 0 < 2 ^ count_width) }
     ensures { (g : Form) → grade_of g ≡ urgency_of urgency → Did (Frame.message time serial g (side_by_side m terms counts)) state.old result state.new }
@@ -269,8 +265,7 @@ fn message(
 }
 
 // The window without its oldest messages, and without that of slot `cancelled`, which has this serial, where that is one; the departures of the oldest.
-fn depart(state: &mut [u8], before: Cursor, after: Cursor, cancelled: usize, serial: u32) -> Reply
-    requires state_len { length state.old ≡ state_length }
+fn depart(state: &mut State, before: Cursor, after: Cursor, cancelled: usize, serial: u32) -> Reply
     requires oldest_lt_slots { (before.oldest < slots) × (before.count < slots) × Moved before.oldest before.count after.oldest after.count }
     ensures { Departed after.clock cancelled serial before.oldest before.count after.oldest after.count (words state.old) result (words state.new) }
 {
@@ -298,8 +293,7 @@ fn depart(state: &mut [u8], before: Cursor, after: Cursor, cancelled: usize, ser
 }
 
 // The clock moves on, past messages go, and the queries that they reach are updated.
-fn advance(state: &mut [u8], time: u32) -> Reply
-    requires { length state.old ≡ state_length }
+fn advance(state: &mut State, time: u32) -> Reply
     ensures { Ticked time (words state.old) result (words state.new) }
 {
     let before = Cursor::load(state);
@@ -308,8 +302,7 @@ fn advance(state: &mut [u8], time: u32) -> Reply
     depart(state, before, after, layout::SLOTS, 0)
 }
 
-fn tick(state: &mut [u8], time: u32) -> Reply
-    requires { length state.old ≡ state_length }
+fn tick(state: &mut State, time: u32) -> Reply
     ensures { Did (Frame.tick time) state.old result state.new }
 {
     if time < memory::get(state, layout::CLOCK) {
@@ -319,7 +312,7 @@ fn tick(state: &mut [u8], time: u32) -> Reply
 }
 
 fn register(
-    state: &mut [u8],
+    state: &mut State,
     time: u32,
     number: usize,
     k: u32,
@@ -327,7 +320,6 @@ fn register(
     terms: [u32; 8],
     weights: [u32; 8],
 ) -> Reply
-    requires state_len { length state.old ≡ state_length }
     requires number_lt_numbers { (number < numbers) × (1 ≤ k) × (k ≤ most_listed) × (1 ≤ n) × (n ≤ most_terms) }
     requires by_index { (i : ℕ) → i < n → (get_or terms i 0 < 2 ^ term_width) × (get_or weights i 0 < 2 ^ weight_width) }
     ensures { Did (Frame.register time number k (side_by_side n terms weights)) state.old result state.new }
@@ -350,8 +342,7 @@ fn register(
     }
 }
 
-fn unregister(state: &mut [u8], time: u32, number: usize) -> Reply
-    requires state_len { length state.old ≡ state_length }
+fn unregister(state: &mut State, time: u32, number: usize) -> Reply
     requires number_lt_numbers { number < numbers }
     ensures { Did (Frame.unregister time number) state.old result state.new }
 {
@@ -371,8 +362,7 @@ fn unregister(state: &mut [u8], time: u32, number: usize) -> Reply
 }
 
 // The message in force with the serial departs, and past messages with it.
-fn cancel(state: &mut [u8], time: u32, serial: u32) -> Reply
-    requires { length state.old ≡ state_length }
+fn cancel(state: &mut State, time: u32, serial: u32) -> Reply
     ensures { Did (Frame.cancel time serial) state.old result state.new }
 {
     let before = Cursor::load(state);
@@ -454,8 +444,7 @@ pub fn frame(state: &mut [u8], bytes: &[u8]) -> Reply
 }
 
 // Whether a query is registered under the number, which may be any.
-fn registered(state: &[u8], number: u32) -> bool
-    requires { length state.now ≡ state_length }
+fn registered(state: &State, number: u32) -> bool
     ensures { result ≡ registered_in (words state.now) number }
 {
     number < NUMBERS && query::in_use(state, number as usize)

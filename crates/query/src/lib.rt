@@ -17,7 +17,7 @@ ghost use Rattle.query.specs.Post.{Clamped, InRange, LoadedQuery, LoadedThreshol
 ghost use Rattle.query.specs.Post.{Retuned, Refilled, SettledFrom, WithoutOne, MovedFlags, Least, KeptList, WithoutGone, WithNewest, Changed, Updated, Packed, PutQuery, Registered, Cleared};
 
 use candidates::Query;
-use paper::layout;
+use paper::{State, layout};
 use rank::Ranked;
 
 // What the words of a record are clamped to: k, the number of terms, a term, and a weight, which shares a word with its term.
@@ -32,8 +32,8 @@ const WEIGHT_LIMIT: u32 = 16;
 const MOST_WEIGHT: u32 = WEIGHT_LIMIT - 1;
 
 // Whether the number is in use: a record that isn't is all zero.
-pub fn in_use(state: &[u8], q: usize) -> bool
-    requires { (length state.now ≡ state_length) × (q < numbers) }
+pub fn in_use(state: &State, q: usize) -> bool
+    requires { q < numbers }
     ensures { result ≡ not (eqb (get_or (words state.now) (record_at q) 0) 0) }
 {
     memory::get(state, layout::RECORDS + layout::RECORD * q) != 0
@@ -51,12 +51,12 @@ fn clamped(v: u32, least: u32, most: u32) -> u32
 }
 
 // The query that the record holds.
-pub fn load_query(state: &[u8], q: usize) -> Query
-    requires { (length state.now ≡ state_length) × (q < numbers) }
+pub fn load_query(state: &State, q: usize) -> Query
+    requires { q < numbers }
     ensures { LoadedQuery (words state.now) q result }
 {
     let at = layout::RECORDS + layout::RECORD * q;
-    let pairs = memory::load8(state, at + layout::PAIRS);
+    let pairs = memory::load::<8>(state, at + layout::PAIRS);
     let mut terms = [0u32; 8];
     let mut weights = [0u32; 8];
     let mut i: usize = 0;
@@ -75,11 +75,11 @@ pub fn load_query(state: &[u8], q: usize) -> Query
 }
 
 // The thresholds that the record holds, none above the top of the scale.
-fn load_thresholds(state: &[u8], q: usize) -> [u32; 8]
-    requires { (length state.now ≡ state_length) × (q < numbers) }
+fn load_thresholds(state: &State, q: usize) -> [u32; 8]
+    requires { q < numbers }
     ensures { LoadedThresholds (words state.now) q result }
 {
-    let words = memory::load8(
+    let words = memory::load::<8>(
         state,
         layout::RECORDS + layout::RECORD * q + layout::THRESHOLDS,
     );
@@ -93,8 +93,8 @@ fn load_thresholds(state: &[u8], q: usize) -> [u32; 8]
 }
 
 // How many entries the list that the record holds has: no more than it has places, whatever memory says.
-pub fn listed(state: &[u8], q: usize) -> usize
-    requires { (length state.now ≡ state_length) × (q < numbers) }
+pub fn listed(state: &State, q: usize) -> usize
+    requires { q < numbers }
     ensures { (result ≤ most_listed) × (result ≡ length (keys (words state.now) q)) }
 {
     let count = memory::get(state, layout::RECORDS + layout::RECORD * q + layout::LISTED);
@@ -113,8 +113,8 @@ pub struct Line {
 }
 
 // The entry at place i of the list that the record holds.
-pub fn entry(state: &[u8], q: usize, i: usize) -> Line
-    requires { (length state.now ≡ state_length) × (q < numbers) × (i < length (keys (words state.now) q)) }
+pub fn entry(state: &State, q: usize, i: usize) -> Line
+    requires { (q < numbers) × (i < length (keys (words state.now) q)) }
     ensures { line_with result.serial result.score ≡ listed_at (words state.now) q i }
 {
     let at = layout::RECORDS + layout::RECORD * q;
@@ -125,13 +125,13 @@ pub fn entry(state: &[u8], q: usize, i: usize) -> Line
 }
 
 // The list that the record holds.
-pub fn load_list(state: &[u8], q: usize) -> Ranked
-    requires { (length state.now ≡ state_length) × (q < numbers) }
+pub fn load_list(state: &State, q: usize) -> Ranked
+    requires { q < numbers }
     ensures { LoadedList (words state.now) q result }
 {
     let at = layout::RECORDS + layout::RECORD * q;
-    let serials = memory::load16(state, at + layout::SERIALS);
-    let keys = memory::load16(state, at + layout::KEYS);
+    let serials = memory::load::<16>(state, at + layout::SERIALS);
+    let keys = memory::load::<16>(state, at + layout::KEYS);
     Ranked {
         serials,
         keys,
@@ -140,8 +140,8 @@ pub fn load_list(state: &[u8], q: usize) -> Ranked
 }
 
 // What is kept of a query is written.
-fn store(state: &mut [u8], q: usize, thresholds: [u32; 8], list: Ranked, flags: [u32; 9])
-    requires state_len { (length state.old ≡ state_length) × (q < numbers) }
+fn store(state: &mut State, q: usize, thresholds: [u32; 8], list: Ranked, flags: [u32; 9])
+    requires in_bounds { q < numbers }
     requires count_le_most_listed { list.count ≤ most_listed }
     ensures { StoredKept q thresholds list flags (words state.old) (words state.new) }
 {
@@ -150,10 +150,10 @@ fn store(state: &mut [u8], q: usize, thresholds: [u32; 8], list: Ranked, flags: 
     let serials = list.serials;
     let keys = list.keys;
     memory::put(state, at + layout::LISTED, count as u32);
-    memory::store8(state, at + layout::THRESHOLDS, thresholds);
-    memory::store16(state, at + layout::SERIALS, serials);
-    memory::store16(state, at + layout::KEYS, keys);
-    memory::store9(state, at + layout::FLAGS, flags);
+    memory::store(state, at + layout::THRESHOLDS, thresholds);
+    memory::store(state, at + layout::SERIALS, serials);
+    memory::store(state, at + layout::KEYS, keys);
+    memory::store(state, at + layout::FLAGS, flags);
 }
 
 // The thresholds raised where the list is full and they leave room below its last score, else none.
@@ -176,22 +176,21 @@ fn raised(query: Query, thresholds: [u32; 8], list: Ranked) -> [u32; 8]
 
 // Of messages that have been looked at, those above one of the raised thresholds become the candidates, and all of it is stored.
 fn finish(
-    state: &mut [u8],
+    state: &mut State,
     q: usize,
     picked: &[u16],
-    m: usize,
     rows: &[u16],
     query: Query,
     raised: [u32; 8],
     list: Ranked,
 )
-    requires state_len { (length state.old ≡ state_length) × (q < numbers) × (m ≤ slots) × (length picked.now ≡ slots) × (length rows.now ≡ row_width * slots) }
-    requires by_index { (i : ℕ) → i < m → get_or picked.now i 0 < slots }
+    requires in_bounds { (q < numbers) × (length picked.now ≤ slots) × (length rows.now ≡ row_width * slots) }
+    requires by_index { (i : ℕ) → i < length picked.now → get_or picked.now i 0 < slots }
     requires in_range { InRange query }
     requires count_le_most_listed { list.count ≤ most_listed }
-    ensures { Finished (words state.old) q (take m picked.now) rows.now query raised list (words state.new) }
+    ensures { Finished (words state.old) q picked.now rows.now query raised list (words state.new) }
 {
-    let kept = candidates::sifted_rows(picked, m, rows, query, raised);
+    let kept = candidates::sifted_rows(picked, rows, query, raised);
     store(state, q, raised, list, kept);
 }
 
@@ -213,45 +212,38 @@ fn is_safe(query: Query, thresholds: [u32; 8], list: Ranked) -> bool
 }
 
 // The query is settled from the picked messages, each looked at once; not where a message that isn't picked could be listed.
-fn settled(
-    state: &mut [u8],
-    q: usize,
-    picked: &[u16],
-    m: usize,
-    query: Query,
-    thresholds: [u32; 8],
-) -> bool
-    requires state_len { (length state.old ≡ state_length) × (q < numbers) × (m ≤ slots) × (length picked.now ≡ slots) }
-    requires by_index { (i : ℕ) → i < m → get_or picked.now i 0 < slots }
+fn settled(state: &mut State, q: usize, picked: &[u16], query: Query, thresholds: [u32; 8]) -> bool
+    requires in_bounds { (q < numbers) × (length picked.now ≤ slots) }
+    requires by_index { (i : ℕ) → i < length picked.now → get_or picked.now i 0 < slots }
     requires in_range { InRange query }
     requires by_index_2 { (i : ℕ) → get_or thresholds i 0 ≤ top }
-    ensures { Attempted (words state.old) q (take m picked.now) query thresholds result (words state.new) }
+    ensures { Attempted (words state.old) q picked.now query thresholds result (words state.new) }
 {
     let mut rows = [0u16; candidates::ROWS];
-    candidates::look(state, picked, m, query, &mut rows);
-    let list = candidates::ranked_rows(state, picked, m, &rows, query);
+    candidates::look(state, picked, query, &mut rows);
+    let list = candidates::ranked_rows(state, picked, &rows, query);
     if !is_safe(query, thresholds, list) {
         return false;
     }
     let next = raised(query, thresholds, list);
-    finish(state, q, picked, m, &rows, query, next, list);
+    finish(state, q, picked, &rows, query, next, list);
     true
 }
 
 // The query is settled over the whole window, from zero thresholds.
-fn refill(state: &mut [u8], q: usize, first: usize, count: usize, query: Query)
-    requires state_len { (length state.old ≡ state_length) × (q < numbers) × (first < slots) × (count < slots) }
+fn refill(state: &mut State, q: usize, first: usize, count: usize, query: Query)
+    requires in_bounds { (q < numbers) × (first < slots) × (count < slots) }
     requires in_range { InRange query }
     ensures { Refilled (words state.old) q first count query (words state.new) }
 {
     let mut picked = [0u16; layout::SLOTS];
     let m = candidates::having(state, first, count, query, &mut picked);
-    let _done = settled(state, q, &picked, m, query, [0u32; 8]);
+    let _done = settled(state, q, &picked[..m], query, [0u32; 8]);
 }
 
 // The query is settled from its candidates, or from the whole window where they aren't enough.
 fn settle(
-    state: &mut [u8],
+    state: &mut State,
     q: usize,
     first: usize,
     count: usize,
@@ -259,14 +251,14 @@ fn settle(
     query: Query,
     thresholds: [u32; 8],
 )
-    requires state_len { (length state.old ≡ state_length) × (q < numbers) × (first < slots) × (count < slots) }
+    requires in_bounds { (q < numbers) × (first < slots) × (count < slots) }
     requires in_range { InRange query }
     requires by_index { (i : ℕ) → get_or thresholds i 0 ≤ top }
     ensures { SettledFrom (words state.old) q first count flags query thresholds (words state.new) }
 {
     let mut picked = [0u16; layout::SLOTS];
     let m = candidates::flagged_slots(first, count, flags, &mut picked);
-    if !settled(state, q, &picked, m, query, thresholds) {
+    if !settled(state, q, &picked[..m], query, thresholds) {
         refill(state, q, first, count, query);
     }
 }
@@ -307,8 +299,8 @@ fn both(a: bool, b: bool) -> bool
 }
 
 // One look at each of the query's terms, in the tables of the impacts that come and of the greatest that go.
-fn touched(state: &[u8], q: usize, coming: &[u16], going: &[u16]) -> Touch
-    requires { (length state.now ≡ state_length) × (q < numbers) × (length coming.now ≡ term_limit) × (length going.now ≡ term_limit) }
+fn touched(state: &State, q: usize, coming: &[u16], going: &[u16]) -> Touch
+    requires { (q < numbers) × (length coming.now ≡ term_limit) × (length going.now ≡ term_limit) }
     ensures { Touched (words state.now) q coming.now going.now result }
 {
     let at = layout::RECORDS + layout::RECORD * q;
@@ -350,12 +342,12 @@ fn without_one(flags: [u32; 9], j: usize) -> [u32; 9]
 }
 
 // The candidates' flags at the thresholds that stand: without those that left, and with the one that came where it exceeds one of them.
-fn moved_flags(state: &[u8], q: usize, moved: Move, comes: bool) -> [u32; 9]
-    requires { (length state.now ≡ state_length) × (q < numbers) × (moved.gone < slots) }
+fn moved_flags(state: &State, q: usize, moved: Move, comes: bool) -> [u32; 9]
+    requires { (q < numbers) × (moved.gone < slots) }
     ensures { MovedFlags (words state.now) q moved comes result }
 {
     let newest = moved.newest;
-    let flags = memory::load9(state, layout::RECORDS + layout::RECORD * q + layout::FLAGS);
+    let flags = memory::load::<9>(state, layout::RECORDS + layout::RECORD * q + layout::FLAGS);
     let later = candidates::without(flags, moved.gone, moved.departed);
     let rest = without_one(later, moved.cancelled);
     if newest < layout::SLOTS {
@@ -365,8 +357,8 @@ fn moved_flags(state: &[u8], q: usize, moved: Move, comes: bool) -> [u32; 9]
 }
 
 // The least key by which a message that goes or comes can change the list: that of the last entry of a full one, that of any score of one that isn't.
-fn least(state: &[u8], q: usize) -> u32
-    requires { (length state.now ≡ state_length) × (q < numbers) }
+fn least(state: &State, q: usize) -> u32
+    requires { q < numbers }
     ensures { Least (words state.now) q result }
 {
     let at = layout::RECORDS + layout::RECORD * q;
@@ -381,11 +373,11 @@ fn least(state: &[u8], q: usize) -> u32
 }
 
 // List and thresholds stay: only the candidates change.
-fn keep_list(state: &mut [u8], q: usize, flags: [u32; 9])
-    requires { (length state.old ≡ state_length) × (q < numbers) }
+fn keep_list(state: &mut State, q: usize, flags: [u32; 9])
+    requires { q < numbers }
     ensures { KeptList (words state.old) q flags (words state.new) }
 {
-    memory::store9(
+    memory::store(
         state,
         layout::RECORDS + layout::RECORD * q + layout::FLAGS,
         flags,
@@ -393,8 +385,8 @@ fn keep_list(state: &mut [u8], q: usize, flags: [u32; 9])
 }
 
 // The list without the messages that leave, where one of them scores enough to be in it.
-fn without_gone(state: &[u8], moved: Move, went: u32, least: u32, list: Ranked) -> Ranked
-    requires { (length state.now ≡ state_length) × (moved.gone < slots) × (list.count ≤ most_listed) }
+fn without_gone(state: &State, moved: Move, went: u32, least: u32, list: Ranked) -> Ranked
+    requires { (moved.gone < slots) × (list.count ≤ most_listed) }
     ensures { WithoutGone (words state.now) moved went least list result }
 {
     let mut rest = list;
@@ -416,8 +408,15 @@ fn without_gone(state: &[u8], moved: Move, went: u32, least: u32, list: Ranked) 
 }
 
 // The list with the arriving message, where there is one and it changes it.
-fn with_newest(state: &[u8], newest: usize, came: u32, k: usize, least: u32, list: Ranked) -> Ranked
-    requires { (length state.now ≡ state_length) × (k ≤ most_listed) × (list.count ≤ most_listed) × (came < score_limit) }
+fn with_newest(
+    state: &State,
+    newest: usize,
+    came: u32,
+    k: usize,
+    least: u32,
+    list: Ranked,
+) -> Ranked
+    requires { (k ≤ most_listed) × (list.count ≤ most_listed) × (came < score_limit) }
     ensures { WithNewest (words state.now) newest came k least list result }
 {
     if layout::SLOTS <= newest {
@@ -450,7 +449,7 @@ fn same(a: [u32; 8], b: [u32; 8]) -> bool
 
 // The thresholds are raised to these beside a list that is right; the candidates are looked at, those that the flags say.
 fn sift(
-    state: &mut [u8],
+    state: &mut State,
     q: usize,
     first: usize,
     count: usize,
@@ -459,7 +458,7 @@ fn sift(
     raised: [u32; 8],
     list: Ranked,
 )
-    requires state_len { (length state.old ≡ state_length) × (q < numbers) × (first < slots) × (count < slots) }
+    requires in_bounds { (q < numbers) × (first < slots) × (count < slots) }
     requires in_range { InRange query }
     requires count_le_most_listed { list.count ≤ most_listed }
     ensures { SiftedFrom (words state.old) q first count flags query raised list (words state.new) }
@@ -467,13 +466,14 @@ fn sift(
     let mut picked = [0u16; layout::SLOTS];
     let mut rows = [0u16; candidates::ROWS];
     let m = candidates::flagged_slots(first, count, flags, &mut picked);
-    candidates::look(state, &picked, m, query, &mut rows);
-    finish(state, q, &picked, m, &rows, query, raised, list);
+    let picked = &picked[..m];
+    candidates::look(state, picked, query, &mut rows);
+    finish(state, q, picked, &rows, query, raised, list);
 }
 
 // The list is right, and the flags are for these thresholds: they are raised, and candidates looked at only where that changes one.
 fn retune(
-    state: &mut [u8],
+    state: &mut State,
     q: usize,
     first: usize,
     count: usize,
@@ -482,7 +482,7 @@ fn retune(
     thresholds: [u32; 8],
     list: Ranked,
 )
-    requires state_len { (length state.old ≡ state_length) × (q < numbers) × (first < slots) × (count < slots) }
+    requires in_bounds { (q < numbers) × (first < slots) × (count < slots) }
     requires in_range { InRange query }
     requires count_le_most_listed { (list.count ≤ most_listed) × ((i : ℕ) → get_or thresholds i 0 ≤ top) }
     ensures { Retuned (words state.old) q first count flags query thresholds list (words state.new) }
@@ -496,8 +496,8 @@ fn retune(
 }
 
 // The list changes in place. Where it was full and no longer is, a message that wasn't listed may have to be.
-fn change(state: &mut [u8], q: usize, moved: Move, touch: Touch, least: u32, flags: [u32; 9])
-    requires state_len { (length state.old ≡ state_length) × (q < numbers) × (moved.gone < slots) × (moved.first < slots) × (moved.count < slots) }
+fn change(state: &mut State, q: usize, moved: Move, touch: Touch, least: u32, flags: [u32; 9])
+    requires in_bounds { (q < numbers) × (moved.gone < slots) × (moved.first < slots) × (moved.count < slots) }
     requires came_lt_score_limit { touch.came < score_limit }
     ensures { Changed (words state.old) q moved touch least flags (words state.new) }
 {
@@ -517,8 +517,8 @@ fn change(state: &mut [u8], q: usize, moved: Move, touch: Touch, least: u32, fla
 }
 
 // A query is updated where a frame reaches it; the tables have the impacts that come and the greatest that go, of all terms.
-pub fn update(state: &mut [u8], q: usize, moved: Move, coming: &[u16], going: &[u16]) -> bool
-    requires state_len { (length state.old ≡ state_length) × (q < numbers) × (moved.gone < slots) × (moved.first < slots) × (moved.count < slots) }
+pub fn update(state: &mut State, q: usize, moved: Move, coming: &[u16], going: &[u16]) -> bool
+    requires in_bounds { (q < numbers) × (moved.gone < slots) × (moved.first < slots) × (moved.count < slots) }
     requires coming_len { (length coming.now ≡ term_limit) × (length going.now ≡ term_limit) }
     ensures { Updated (words state.old) q moved coming.now going.now result (words state.new) }
 {
@@ -539,8 +539,8 @@ pub fn update(state: &mut [u8], q: usize, moved: Move, coming: &[u16], going: &[
 }
 
 // A record becomes all zero.
-pub fn clear(state: &mut [u8], q: usize)
-    requires { (length state.old ≡ state_length) × (q < numbers) }
+pub fn clear(state: &mut State, q: usize)
+    requires { q < numbers }
     ensures { Cleared (words state.old) q (words state.new) }
 {
     let at = layout::RECORDS + layout::RECORD * q;
@@ -567,8 +567,8 @@ fn packed(n: usize, terms: [u32; 8], weights: [u32; 8]) -> [u32; 8]
 }
 
 // A query is written: the length of its list, how many terms it has, and each with its weight.
-fn put_query(state: &mut [u8], q: usize, k: u32, n: usize, terms: [u32; 8], weights: [u32; 8])
-    requires state_len { (length state.old ≡ state_length) × (q < numbers) × (n ≤ most_terms) }
+fn put_query(state: &mut State, q: usize, k: u32, n: usize, terms: [u32; 8], weights: [u32; 8])
+    requires in_bounds { (q < numbers) × (n ≤ most_terms) }
     requires by_index { (i : ℕ) → i < n → (get_or terms i 0 < term_limit) × (get_or weights i 0 < weight_limit) }
     ensures { PutQuery q (record { k = k; terms = side_by_side n terms weights }) (words state.old) (words state.new) }
 {
@@ -576,12 +576,12 @@ fn put_query(state: &mut [u8], q: usize, k: u32, n: usize, terms: [u32; 8], weig
     memory::put(state, at, k);
     memory::put(state, at + layout::SIZE, n as u32);
     let pairs = packed(n, terms, weights);
-    memory::store8(state, at + layout::PAIRS, pairs);
+    memory::store(state, at + layout::PAIRS, pairs);
 }
 
 // A query is registered over the window.
 pub fn register(
-    state: &mut [u8],
+    state: &mut State,
     q: usize,
     k: u32,
     n: usize,
@@ -590,7 +590,7 @@ pub fn register(
     first: usize,
     count: usize,
 )
-    requires state_len { (length state.old ≡ state_length) × (q < numbers) × (first < slots) × (count < slots) }
+    requires in_bounds { (q < numbers) × (first < slots) × (count < slots) }
     requires le_k { (1 ≤ k) × (k ≤ most_listed) × (1 ≤ n) × (n ≤ most_terms) }
     requires by_index { (i : ℕ) → i < n → (get_or terms i 0 < term_limit) × (get_or weights i 0 < weight_limit) }
     ensures { Registered (words state.old) q first count (record { k = k; terms = side_by_side n terms weights }) (words state.new) }

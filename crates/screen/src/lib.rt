@@ -11,7 +11,7 @@ ghost use Rattle.query.specs.Record.{keys};
 ghost use Rattle.screen.specs.Lines.{screen_line_bytes, lines_into};
 ghost use Rattle.screen.specs.Post.{line_after, QueryNumbers, StillWaiting, Shared};
 
-use paper::{MOST_LISTED, NUMBERS};
+use paper::{MOST_LISTED, NUMBERS, State};
 
 // The most lines of a screen, and how many bytes each takes.
 pub const MOST_LINES: u32 = 512;
@@ -31,8 +31,8 @@ fn put_numbers(queries: &mut [u8])
 }
 
 // Of the first `count` queries those that have an entry at place i move to the front; how many they are.
-fn with_entry(state: &[u8], queries: &mut [u8], count: usize, i: usize) -> usize
-    requires { (length state.now ≡ state_length) × QueryNumbers queries.old count }
+fn with_entry(state: &State, queries: &mut [u8], count: usize, i: usize) -> usize
+    requires { QueryNumbers queries.old count }
     ensures { StillWaiting (words state.now) i queries.old count queries.new result }
 {
     let mut n: usize = 0;
@@ -67,8 +67,8 @@ fn put_line(out: &mut [u8], number: u8, serial: u32, score: u32)
 }
 
 // A line for each of the first n queries: that of the entry at place i of its list.
-fn put_round(state: &[u8], queries: &[u8], n: usize, i: usize, out: &mut [u8])
-    requires state_len { (length state.now ≡ state_length) × (length queries.now ≡ numbers) × (n ≤ numbers) × (screen_line_length * n ≤ length out.old) }
+fn put_round(state: &State, queries: &[u8], n: usize, i: usize, out: &mut [u8])
+    requires in_bounds { (length queries.now ≡ numbers) × (n ≤ numbers) × (screen_line_length * n ≤ length out.old) }
     requires by_index { (j : ℕ) → j < n → (get_or queries.now j 0 < numbers) × (i < length (keys (words state.now) (get_or queries.now j 0))) }
     ensures { out.new ≡ lines_into (map (line_after (words state.now) i) (take n queries.now)) out.old }
 {
@@ -84,8 +84,8 @@ fn put_round(state: &[u8], queries: &[u8], n: usize, i: usize, out: &mut [u8])
 }
 
 // The lines of all rounds, as many as there may be; how many they are.
-pub fn share(state: &[u8], lines: usize, out: &mut [u8]) -> usize
-    requires { (length state.now ≡ state_length) × (lines ≤ most_screen_lines) × (screen_line_length * lines ≤ length out.old) }
+pub fn share(state: &State, lines: usize, out: &mut [u8]) -> usize
+    requires { (lines ≤ most_screen_lines) × (screen_line_length * lines ≤ length out.old) }
     ensures { Shared (words state.now) lines out.old result out.new }
 {
     let mut queries = [0u8; NUMBERS];

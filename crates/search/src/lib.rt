@@ -13,7 +13,7 @@ ghost use Rattle.search.specs.Cut as cut;
 ghost use Rattle.search.specs.Post.{Fit, height_limit, Column, Columns, sum_by, read_by, EndsAt, ReadFor, WindowSearch};
 
 use candidates::Query;
-use paper::layout;
+use paper::{State, layout};
 use rank::Ranked;
 
 const MOST_TERMS: u32 = paper::MOST_TERMS as u32;
@@ -175,8 +175,8 @@ fn postings_read(columns: &[u16], m: usize, query: Query, list: Ranked) -> u32
 }
 
 // The search over the window that is `count` slots from slot `first` on.
-pub fn search(state: &[u8], first: usize, count: usize, query: Query) -> Outcome
-    requires { (length state.now ≡ state_length) × (first < slots) × (count < slots) × Fit query }
+pub fn search(state: &State, first: usize, count: usize, query: Query) -> Outcome
+    requires { (first < slots) × (count < slots) × Fit query }
     ensures { WindowSearch (words state.now) first count query result }
 {
     let mut picked = [0u16; layout::SLOTS];
@@ -189,8 +189,9 @@ pub fn search(state: &[u8], first: usize, count: usize, query: Query) -> Outcome
         };
     }
     let mut rows = [0u16; candidates::ROWS];
-    candidates::look(state, &picked, m, query, &mut rows);
-    let list = candidates::ranked_rows(state, &picked, m, &rows, query);
+    let picked = &picked[..m];
+    candidates::look(state, picked, query, &mut rows);
+    let list = candidates::ranked_rows(state, picked, &rows, query);
     let mut columns = [0u16; COLUMNS];
     put_columns(&rows, m, query.n, &mut columns);
     Outcome {

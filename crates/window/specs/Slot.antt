@@ -1,6 +1,7 @@
 -- What a slot of the ring holds, and the slots that are in the window. `w` is the state memory in words. Assumes nothing.
 use Rattle.std.specs.Prelude.{ℕ, zero, suc, ◌+◌, ◌*◌, ◌/◌, ◌%◌, ◌^◌, ◌≤◌, ◌<◌, min}
 use Rattle.std.specs.Prelude.{Bool, false, cond, ◌||◌, ◌≡◌, ◌⊎◌, List, [], ◌∷◌, map, length, get_or, take, drop, eqb, ltb}
+use Rattle.std.specs.Prelude.{Option, MatchOption}
 use Rattle.paper.specs.Frame.{level, most_pairs, serial_width, urgency_width}
 use Rattle.paper.specs.Sort.{select}
 use Rattle.paper.specs.Window.{Message, past}
@@ -88,6 +89,10 @@ drop_past T clock (x ∷ xs) = cond (past T clock x.time) (drop_past T clock xs)
 unfoldable pub seek : List ℕ → ℕ → List ℕ → ℕ
 seek w s [] = slots
 seek w s (j ∷ js) = cond (eqb (slot w j).serial s) j (seek w s js)
+
+-- that slot, and none where it would be past the last
+abbrev pub Sought : List ℕ → ℕ → List ℕ → Option ℕ → Type 0
+Sought w s js r = MatchOption r (seek w s js ≡ slots) (λ j. (seek w s js ≡ j) × (j < slots))
 
 unfoldable pub holds_serial : ℕ → List Slot → Bool
 holds_serial s [] = false

@@ -10,13 +10,13 @@ ghost use Rattle.paper.specs.Layout.{slots, state_words, state_length};
 ghost use Rattle.memory.specs.Words.{words};
 ghost use Rattle.memory.specs.Keeps.{Stored};
 ghost use Rattle.impact.specs.Cell.{most_squares, cell_count, cells_of, cell_squares, cell_with, lookup};
-ghost use Rattle.window.specs.Slot.{slot, size_at, grade_in, ring, window, live, next, holds_serial, seek};
+ghost use Rattle.window.specs.Slot.{slot, size_at, grade_in, ring, window, live, next, holds_serial, Sought};
 ghost use Rattle.window.specs.Table.{term_limit, Raised, RaisedBy};
 ghost use Rattle.window.specs.Rows.{row_width, touches, LookedAt};
 ghost use Rattle.window.specs.Cursor.{Loaded, PutCursor, Advanced, Roomy, Written, Cancelled};
 
 use impact::Impact;
-use paper::{MOST_PAIRS, layout};
+use paper::{MOST_PAIRS, State, layout};
 
 // Whether an arrival at `time` is past at the clock. In foreign memory it may stand after the clock: its age is 0 then.
 fn is_past(life: u32, clock: u32, time: u32) -> bool
@@ -35,24 +35,24 @@ pub fn following(j: usize) -> usize
 }
 
 // The time of the message in slot j.
-fn time_in(state: &[u8], j: usize) -> u32
-    requires { (length state.now ≡ state_length) × (j < slots) }
+fn time_in(state: &State, j: usize) -> u32
+    requires { j < slots }
     ensures { result ≡ (slot (words state.now) j).time }
 {
     memory::get(state, layout::SLOT_TIMES + j)
 }
 
 // The serial of the message in slot j.
-pub fn serial_in(state: &[u8], j: usize) -> u32
-    requires { (length state.now ≡ state_length) × (j < slots) }
+pub fn serial_in(state: &State, j: usize) -> u32
+    requires { j < slots }
     ensures { result ≡ (slot (words state.now) j).serial }
 {
     memory::get(state, layout::SLOT_SERIALS + j)
 }
 
 // The urgency of the message in slot j, which stands above its number of cells.
-pub fn urgency_in(state: &[u8], j: usize) -> u32
-    requires { (length state.now ≡ state_length) × (j < slots) }
+pub fn urgency_in(state: &State, j: usize) -> u32
+    requires { j < slots }
     ensures { result ≡ grade_in (slot (words state.now) j) }
 {
     let word = memory::get(state, layout::CELL_COUNTS + j);
@@ -60,8 +60,8 @@ pub fn urgency_in(state: &[u8], j: usize) -> u32
 }
 
 // How many cells the message in slot j has, at most as many as a slot has room for whatever memory holds.
-fn size_in(state: &[u8], j: usize) -> usize
-    requires { (length state.now ≡ state_length) × (j < slots) }
+fn size_in(state: &State, j: usize) -> usize
+    requires { j < slots }
     ensures { result ≡ size_at (words state.now) j }
 {
     let word = memory::get(state, layout::CELL_COUNTS + j);
@@ -70,8 +70,8 @@ fn size_in(state: &[u8], j: usize) -> usize
 }
 
 // The first cell of the message in slot j that has the term, 0 where none has it.
-fn cell_in(state: &[u8], j: usize, term: u32) -> u32
-    requires { (length state.now ≡ state_length) × (j < slots) }
+fn cell_in(state: &State, j: usize, term: u32) -> u32
+    requires { j < slots }
     ensures { result ≡ cell_with term (slot (words state.now) j).cells }
 {
     let cells = layout::CELLS + MOST_PAIRS * j;
@@ -88,24 +88,24 @@ fn cell_in(state: &[u8], j: usize, term: u32) -> u32
 }
 
 // The impact of the message in slot j in the term: that of the first cell with it, 0 where the message lacks it.
-pub fn impact_in(state: &[u8], j: usize, term: u32) -> u32
-    requires { (length state.now ≡ state_length) × (j < slots) }
+pub fn impact_in(state: &State, j: usize, term: u32) -> u32
+    requires { j < slots }
     ensures { result ≡ lookup term (slot (words state.now) j).cells }
 {
     cell_in(state, j, term) % impact::COUNT_FACTOR
 }
 
 // The count of the term in the message in slot j, 0 where the message lacks it.
-pub fn count_in(state: &[u8], j: usize, term: u32) -> u32
-    requires { (length state.now ≡ state_length) × (j < slots) }
+pub fn count_in(state: &State, j: usize, term: u32) -> u32
+    requires { j < slots }
     ensures { result ≡ cell_count (cell_with term (slot (words state.now) j).cells) }
 {
     impact::count_of(cell_in(state, j, term))
 }
 
 // The sum of the counts squared of the message in slot j.
-pub fn squares_in(state: &[u8], j: usize) -> u32
-    requires { (length state.now ≡ state_length) × (j < slots) }
+pub fn squares_in(state: &State, j: usize) -> u32
+    requires { j < slots }
     ensures { (result ≡ cell_squares (slot (words state.now) j).cells) × (result ≤ most_squares) }
 {
     let cells = layout::CELLS + MOST_PAIRS * j;
@@ -127,8 +127,8 @@ pub fn greater(a: u16, b: u16) -> u16
 }
 
 // The table's entry of each term of the message in slot j becomes at least the message's impact in it.
-fn raise_impacts(state: &[u8], j: usize, table: &mut [u16])
-    requires { (length state.now ≡ state_length) × (j < slots) × (length table.old ≡ term_limit) }
+fn raise_impacts(state: &State, j: usize, table: &mut [u16])
+    requires { (j < slots) × (length table.old ≡ term_limit) }
     ensures { (length table.new ≡ term_limit) × Raised (slot (words state.now) j).cells table.old table.new }
 {
     let at = layout::CELLS + MOST_PAIRS * j;
@@ -143,8 +143,8 @@ fn raise_impacts(state: &[u8], j: usize, table: &mut [u16])
 }
 
 // The same for all of the `count` messages from slot `first` on.
-pub fn raise_all(state: &[u8], first: usize, count: usize, table: &mut [u16])
-    requires { (length state.now ≡ state_length) × (first < slots) × (length table.old ≡ term_limit) }
+pub fn raise_all(state: &State, first: usize, count: usize, table: &mut [u16])
+    requires { (first < slots) × (length table.old ≡ term_limit) }
     ensures { (length table.new ≡ term_limit) × RaisedBy (window (words state.now) first count) table.old table.new }
 {
     let mut j = first;
@@ -170,8 +170,8 @@ fn wide(x: u8) -> u32
 }
 
 // Whether a term of the message in slot j has a place other than 0, by the sum of the places: no cell is tested.
-pub fn has_place(state: &[u8], j: usize, places: &[u8]) -> bool
-    requires { (length state.now ≡ state_length) × (j < slots) × (length places.now ≡ term_limit) }
+pub fn has_place(state: &State, j: usize, places: &[u8]) -> bool
+    requires { (j < slots) × (length places.now ≡ term_limit) }
     ensures { result ≡ touches places.now (slot (words state.now) j).cells }
 {
     let cells = layout::CELLS + MOST_PAIRS * j;
@@ -190,8 +190,8 @@ pub fn has_place(state: &[u8], j: usize, places: &[u8]) -> bool
 // The impacts of the message in slot j go into the row from place `at` on: that of a term to the term's place in the row, and those of all terms
 // that the table gives place 0 to the first one, which nobody reads: so no cell is tested. From the last cell to the first, so that the first
 // cell of a term counts whatever memory holds.
-pub fn look_at(state: &[u8], j: usize, places: &[u8], rows: &mut [u16], at: usize)
-    requires state_len { (length state.now ≡ state_length) × (j < slots) × (length places.now ≡ term_limit) × (at + row_width ≤ length rows.old) }
+pub fn look_at(state: &State, j: usize, places: &[u8], rows: &mut [u16], at: usize)
+    requires in_bounds { (j < slots) × (length places.now ≡ term_limit) × (at + row_width ≤ length rows.old) }
     requires by_index { (t : ℕ) → get_or places.now t 0 ≤ most_terms }
     ensures { LookedAt (slot (words state.now) j).cells places.now at rows.old rows.new }
 {
@@ -215,8 +215,7 @@ pub struct Cursor {
 
 impl Cursor {
     // The cursor that the header says, brought into range.
-    pub fn load(state: &[u8]) -> Cursor
-        requires { length state.now ≡ state_length }
+    pub fn load(state: &State) -> Cursor
         ensures { Loaded (words state.now) result.clock result.oldest result.count }
     {
         let oldest = memory::get(state, layout::OLDEST) as usize;
@@ -229,8 +228,8 @@ impl Cursor {
     }
 
     // The clock moves on, and past messages go.
-    pub fn advanced(mut self, state: &[u8], life: u32, clock: u32) -> Cursor
-        requires { (length state.now ≡ state_length) × (self.oldest < slots) }
+    pub fn advanced(mut self, state: &State, life: u32, clock: u32) -> Cursor
+        requires { self.oldest < slots }
         ensures { Advanced (words state.now) life self.oldest self.count clock result.clock result.oldest result.count }
     {
         self.clock = clock;
@@ -266,8 +265,7 @@ impl Cursor {
 }
 
 // The header says this cursor.
-pub fn put_cursor(state: &mut [u8], clock: u32, oldest: usize, count: usize)
-    requires state_len { length state.old ≡ state_length }
+pub fn put_cursor(state: &mut State, clock: u32, oldest: usize, count: usize)
     requires oldest_lt_slots { (oldest < slots) × (count < slots) }
     ensures { PutCursor clock oldest count (words state.old) (words state.new) }
 {
@@ -277,8 +275,8 @@ pub fn put_cursor(state: &mut [u8], clock: u32, oldest: usize, count: usize)
 }
 
 // Whether one of the messages in the slots from `first` up to `end` has the serial. All are looked at: no slot's test waits for another's.
-fn serial_among(state: &[u8], first: usize, end: usize, serial: u32) -> bool
-    requires { (length state.now ≡ state_length) × (end ≤ slots) }
+fn serial_among(state: &State, first: usize, end: usize, serial: u32) -> bool
+    requires { end ≤ slots }
     ensures { result ≡ holds_serial serial (window (words state.now) first (end - first)) }
 {
     let mut found = false;
@@ -291,8 +289,8 @@ fn serial_among(state: &[u8], first: usize, end: usize, serial: u32) -> bool
 }
 
 // Whether one of the `count` messages from slot `first` on has the serial: those up to the last slot, and those from slot 0 on.
-pub fn has_serial(state: &[u8], first: usize, count: usize, serial: u32) -> bool
-    requires { (length state.now ≡ state_length) × (first < slots) × (count < slots) }
+pub fn has_serial(state: &State, first: usize, count: usize, serial: u32) -> bool
+    requires { (first < slots) × (count < slots) }
     ensures { result ≡ holds_serial serial (window (words state.now) first count) }
 {
     let end = first + count;
@@ -303,21 +301,21 @@ pub fn has_serial(state: &[u8], first: usize, count: usize, serial: u32) -> bool
     either(late, serial_among(state, 0, end - layout::SLOTS, serial))
 }
 
-// The slot of the first of the `count` messages from slot `first` on that has the serial, slot by slot; past the last slot where none has.
-fn walk_to(state: &[u8], first: usize, count: usize, serial: u32) -> usize
-    requires { (length state.now ≡ state_length) × (first < slots) }
-    ensures { result ≡ seek (words state.now) serial (ring first count) }
+// The slot of the first of the `count` messages from slot `first` on that has the serial, slot by slot; none where none has.
+fn walk_to(state: &State, first: usize, count: usize, serial: u32) -> Option<usize>
+    requires { first < slots }
+    ensures { Sought (words state.now) serial (ring first count) result }
 {
     let mut j = first;
     let mut left = count;
     while 0 < left {
         if serial_in(state, j) == serial {
-            return j;
+            return Some(j);
         }
         j = following(j);
         left -= 1;
     }
-    layout::SLOTS
+    None
 }
 
 // So many slots are compared with a serial before it is asked whether one has it: no comparison waits for another then.
@@ -330,9 +328,9 @@ pub fn lesser(a: usize, b: usize) -> usize
 }
 
 // The same slot. Runs of slots without the serial are passed over whole.
-pub fn slot_of(state: &[u8], first: usize, count: usize, serial: u32) -> usize
-    requires { (length state.now ≡ state_length) × (first < slots) }
-    ensures { result ≡ seek (words state.now) serial (ring first count) }
+pub fn slot_of(state: &State, first: usize, count: usize, serial: u32) -> Option<usize>
+    requires { first < slots }
+    ensures { Sought (words state.now) serial (ring first count) result }
 {
     let mut j = first;
     let mut left = count;
@@ -345,12 +343,12 @@ pub fn slot_of(state: &[u8], first: usize, count: usize, serial: u32) -> usize
         j = (j + run) % layout::SLOTS;
         left -= run;
     }
-    layout::SLOTS
+    None
 }
 
 // How many of the `count` messages from slot `first` on are in force.
-pub fn in_force(state: &[u8], first: usize, count: usize) -> usize
-    requires { (length state.now ≡ state_length) × (first < slots) }
+pub fn in_force(state: &State, first: usize, count: usize) -> usize
+    requires { first < slots }
     ensures { (result ≡ length (live (words state.now) (ring first count))) × (result ≤ count) }
 {
     let mut found: usize = 0;
@@ -368,8 +366,8 @@ pub fn in_force(state: &[u8], first: usize, count: usize) -> usize
 
 // The message in slot j is cancelled: nobody sees cells of it any more, and no frame can say its serial. How many cells it had is kept
 // beside the serial, and the urgency where it stands: nothing of the message is lost.
-pub fn cancel(state: &mut [u8], j: usize)
-    requires { (length state.old ≡ state_length) × (j < slots) }
+pub fn cancel(state: &mut State, j: usize)
+    requires { j < slots }
     ensures { Cancelled j (words state.old) (words state.new) }
 {
     let serial = serial_in(state, j) % paper::SERIALS;
@@ -385,13 +383,13 @@ pub fn cancel(state: &mut [u8], j: usize)
 
 // The message's cells, from word `at` on.
 fn put_cells(
-    state: &mut [u8],
+    state: &mut State,
     at: usize,
     m: usize,
     terms: [u16; MOST_PAIRS],
     counts: [u8; MOST_PAIRS],
 )
-    requires state_len { (length state.old ≡ state_length) × (at + m ≤ state_words) × (m ≤ most_pairs) }
+    requires in_bounds { (at + m ≤ state_words) × (m ≤ most_pairs) }
     requires by_index { (i : ℕ) → i < m → (get_or terms i 0 < 2 ^ term_width) × (get_or counts i 0 < 2 ^ count_width) }
     ensures { Stored at m (cells_of (side_by_side m terms counts)) (words state.old) (words state.new) }
 {
@@ -409,7 +407,7 @@ fn put_cells(
 
 // A message takes slot j. No frame has an urgency above vital.
 pub fn put_message(
-    state: &mut [u8],
+    state: &mut State,
     j: usize,
     time: u32,
     serial: u32,
@@ -418,7 +416,7 @@ pub fn put_message(
     terms: [u16; MOST_PAIRS],
     counts: [u8; MOST_PAIRS],
 )
-    requires state_len { (length state.old ≡ state_length) × (j < slots) × (urgency ≤ level vital) × (m ≤ most_pairs) }
+    requires in_bounds { (j < slots) × (urgency ≤ level vital) × (m ≤ most_pairs) }
     requires by_index { (i : ℕ) → i < m → (get_or terms i 0 < 2 ^ term_width) × (get_or counts i 0 < 2 ^ count_width) }
     ensures { Written j (record { time = time; serial = serial; urgency = urgency_of urgency; pairs = side_by_side m terms counts; cancelled = false }) (words state.old) (words state.new) }
 {
