@@ -1,7 +1,25 @@
 -- Newton's iteration for a root in whole numbers: no guess after a step is below the root, and where none falls any more the root is found.
 -- Assumes nothing.
 use Prim.Native.Nat.{ℕ, zero, suc, ◌+◌, ◌*◌, ◌/◌, ◌≤◌, ◌<◌, min}
-use native.Mathlib.Nat.{add-mul, mul-add, div-one, not-suc-le-zero, lt-suc_self, le_refl, le_of_lt, lt_of_le_of_lt, lt_of_lt_of_le, not-le_of_lt, lt_of_not-le, le_of_suc-le-suc, mul-le-mul, mul-le-mul_right, min-eq_left, min-eq_right, div-lt_iff_lt-mul}
+use native.Mathlib.Nat.{
+  add-mul,
+  mul-add,
+  div-one,
+  not-suc-le-zero,
+  lt-suc_self,
+  le_refl,
+  le_of_lt,
+  lt_of_le_of_lt,
+  lt_of_lt_of_le,
+  not-le_of_lt,
+  lt_of_not-le,
+  le_of_suc-le-suc,
+  mul-le-mul,
+  mul-le-mul_right,
+  min-eq_left,
+  min-eq_right,
+  div-lt_iff_lt-mul,
+}
 use native.Mathlib.Omega.{arith}
 use mathlib.Core.Path.{◌≡◌, refl, ◌∙◌}
 use mathlib.Core.Bool.{Bool, true, false}
