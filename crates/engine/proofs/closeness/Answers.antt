@@ -1,7 +1,7 @@
 -- `closeness` meets its contract. Assumes nothing.
 use native.Mathlib.Omega.{arith}
 use mathlib.Core.Path.{refl}
-use Rattle.core.proofs.result.Match.{err_is}
+use Rattle.frame.proofs.ReadLaws.{passed_on}
 use Rattle.memory.specs.Words.{words}
 use Rattle.engine.proofs.RepresentsLaws.{registered_below}
 use Rattle.engine.proofs.ClosenessLaws.{closeness_above, closeness_unknown, closeness_unused, closeness_right}
@@ -19,8 +19,8 @@ pub returns-in_err-q : goal.returns-in_err-q
 returns-in_err-q c =
     let lent = c.in-Some.ensures.cases in
     let free = rw lent.same at c.in_err-q.ensures in (
-      rw (err_is c.from_residual.result c.in_err-q.field-0.0 c.from_residual.ensures.1, free.0)
-      (closeness_unused _ _ _ lent.long (omega arith) (rw lent.same at c.load-cursor.ensures) (rw lent.same at c.in-Some-slot_of.ensures) free.1 refl),
+      rw (passed_on c.from_residual.result c.in_err-q.field-0.0 c.from_residual.ensures.1, free.0)
+          (closeness_unused _ _ _ lent.long (omega arith) (rw lent.same at c.load-cursor.ensures) (rw lent.same at c.in-Some-slot_of.ensures) free.1 refl),
       refl,
     )
 

@@ -1,6 +1,6 @@
 -- `frame` meets its contract. Assumes nothing.
 use borrow.Author.Rules.{rules}
-use Rattle.core.proofs.result.Match.{err_is}
+use Rattle.frame.proofs.ReadLaws.{passed_on}
 use Rattle.wire.specs.Bits.{Bytes}
 use Rattle.engine.proofs.ReadLaws.{read_message, read_register, read_eight, read_unregister, read_as}
 use Rattle.engine.proofs.PostLaws.{misshapen, done}
@@ -14,7 +14,7 @@ lent_bytes c = search rules
 pub returns-in_err-parsed : goal.returns-in_err-parsed
 returns-in_err-parsed c =
     let lent = c.in-Some.ensures.cases in
-    rw (err_is c.from_residual.result c.in_err-parsed.field-0.0 c.from_residual.ensures.1, lent.same)
+    rw (passed_on c.from_residual.result c.in_err-parsed.field-0.0 c.from_residual.ensures.1, lent.same)
     (misshapen _ _ _ lent.long c.in_err-parsed.ensures)
 
 pub message-requires : goal.message-requires

@@ -1,7 +1,7 @@
 -- `list` meets its contract. Assumes nothing.
 use native.Mathlib.Omega.{arith}
 use mathlib.Core.Path.{refl}
-use Rattle.core.proofs.result.Match.{err_is}
+use Rattle.frame.proofs.ReadLaws.{passed_on}
 use Rattle.memory.specs.Words.{words}
 use Rattle.engine.proofs.ListLaws.{list_not_lent, list_unused, list_right}
 use Rattle.engine.proofs.RepresentsLaws.{registered_below}
@@ -14,7 +14,7 @@ pub returns-in_err-q : goal.returns-in_err-q
 returns-in_err-q c =
     let lent = c.in-Some.ensures.cases in
     let free = rw lent.same at c.in_err-q.ensures in
-    rw (err_is c.from_residual.result c.in_err-q.field-0.0 c.from_residual.ensures.1, free.0) (list_unused _ _ lent.long free.1 refl)
+    rw (passed_on c.from_residual.result c.in_err-q.field-0.0 c.from_residual.ensures.1, free.0) (list_unused _ _ lent.long free.1 refl)
 
 pub load_list-requires : goal.load_list-requires
 load_list-requires c =

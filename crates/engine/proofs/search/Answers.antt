@@ -1,6 +1,6 @@
 -- `search` meets its contract. Assumes nothing.
 use mathlib.Core.Path.{refl}
-use Rattle.core.proofs.result.Match.{err_is}
+use Rattle.frame.proofs.ReadLaws.{passed_on}
 use Rattle.frame.proofs.AskLaws.{Question, question}
 use Rattle.engine.proofs.SearchLaws.{search_not_lent, search_refused, asked_fit, search_right}
 use Rattle.engine.proofs.search.Goals as goal
@@ -10,8 +10,8 @@ returns-in_default c = (search_not_lent _ _ c.in_default.ensures.cases, refl)
 
 pub returns-in_err-asked : goal.returns-in_err-asked
 returns-in_err-asked c = (
-  rw (err_is c.from_residual.result c.in_err-asked.field-0.0 c.from_residual.ensures.1)
-  (search_refused _ _ _ c.in-Some.ensures.cases.long c.in_err-asked.ensures),
+  rw (passed_on c.from_residual.result c.in_err-asked.field-0.0 c.from_residual.ensures.1)
+      (search_refused _ _ _ c.in-Some.ensures.cases.long c.in_err-asked.ensures),
   refl,
 )
 

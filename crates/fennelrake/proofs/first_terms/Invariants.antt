@@ -4,4 +4,3 @@ use Rattle.fennelrake.proofs.first_terms.Given as goal
 
 abbrev pub invariant-loop-i : goal.invariant-loop-i
 invariant-loop-i l = Decoding l.count l.i l.bytes l.terms
-
