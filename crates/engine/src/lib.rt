@@ -117,10 +117,8 @@ fn pass(state: &mut State, moved: Move, coming: &[u16], going: &[u16]) -> u32
 {
     let mut marks: u32 = 0;
     for q in 0..paper::NUMBERS {
-        if query::in_use(state, q) {
-            if query::update(state, q, moved, coming, going) {
-                marks += wire::pow2(q);
-            }
+        if query::in_use(state, q) && query::update(state, q, moved, coming, going) {
+            marks += wire::pow2(q);
         }
     }
     marks

@@ -155,9 +155,7 @@ fn first_terms(bytes: &[u8], count: usize) -> [u16; MOST_PAIRS]
 {
     let mut terms = [0u16; MOST_PAIRS];
     for i in 0..count {
-        let high = u16::from(bytes[2 * i]);
-        let low = u16::from(bytes[2 * i + 1]);
-        terms[i] = high * 256 + low;
+        terms[i] = u16::from_be_bytes([bytes[2 * i], bytes[2 * i + 1]]);
     }
     terms
 }

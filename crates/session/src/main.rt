@@ -54,27 +54,17 @@ fn read_full(input: &mut impl Read, bytes: &mut [u8]) -> Result<usize>
     Ok(done)
 }
 
-// Fills the first bytes of a buffer from the input, and answers how many came.
-fn fill(input: &mut impl Read, bytes: &mut [u8], length: usize) -> Result<usize>
-    requires { length ≤ Len bytes.old }
-    ensures { IfOk result (λ n. n ≤ Len bytes.new) }
-{
-    read_full(input, &mut bytes[..length])
-}
-
-// Hands a frame, the first bytes of a buffer, to the engine, and prints what follows in one write.
+// Hands a frame to the engine, and prints what follows in one write.
 fn hand(
     output: &impl Print,
     state: &mut [u8],
     ordinal: u64,
     bytes: &[u8],
-    length: usize,
     out: &mut [u8],
 ) -> Result<()>
-    requires length_len_bound { length ≤ Len bytes.now }
-    requires bound { 22984 ≤ Len out.old }
+    requires { 22984 ≤ Len out.old }
 {
-    let reply = engine::frame(state, &bytes[..length]);
+    let reply = engine::frame(state, bytes);
     let line = text::reply(out, 0, ordinal, reply);
     let end = match reply {
         Ok(reply) => lists(out, line, state, reply.marks),
@@ -98,8 +88,8 @@ fn feed(
         return Ok(false);
     }
     let mut bytes = [0u8; 255];
-    let got = fill(input, &mut bytes, usize::from(size[0]))?;
-    hand(output, state, ordinal, &bytes, got, out)?;
+    let got = read_full(input, &mut bytes[..usize::from(size[0])])?;
+    hand(output, state, ordinal, &bytes[..got], out)?;
     Ok(true)
 }
 
