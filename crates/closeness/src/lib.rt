@@ -25,7 +25,7 @@ pub struct Closeness {
 impl Closeness {
     // How close the message in slot j is to the query.
     pub fn of(state: &State, j: usize, query: Query) -> Closeness
-        requires { (j < slots) × (query.n ≤ most_terms) × Below query.n weight_limit query.weights }
+        requires { (j < slots) × Below query.n weight_limit query.weights }
         ensures { SlotCloseness (slot (words state.now) j) query result }
     {
         let n = query.n;
@@ -39,7 +39,7 @@ impl Closeness {
 
 // The message's count in each of the query's terms.
 fn counts_in(state: &State, j: usize, query: Query) -> [u32; 8]
-    requires { (j < slots) × (query.n ≤ most_terms) }
+    requires { j < slots }
     ensures { Counts (slot (words state.now) j).cells query result }
 {
     let n = query.n;

@@ -42,7 +42,7 @@ pub extern "C" fn fennelrake_frame(state: &mut [u8], bytes: &[u8], answer: &mut 
     ensures { FrameEntry state.old bytes.now answer.old result state.new answer.new }
 {
     if answer.len() < FRAME_ANSWER {
-        return 12;
+        return u32::from(Refusal::Memory);
     }
     match engine::frame(state, bytes) {
         Ok(reply) => {
@@ -69,7 +69,7 @@ pub extern "C" fn fennelrake_list(state: &[u8], number: u32, answer: &mut [u8]) 
     ensures { ListEntry state.now number answer.old result answer.new }
 {
     if answer.len() < LIST_ANSWER {
-        return 12;
+        return u32::from(Refusal::Memory);
     }
     match engine::list(state, number) {
         Ok(list) => {
@@ -86,7 +86,7 @@ pub extern "C" fn fennelrake_search(state: &[u8], bytes: &[u8], answer: &mut [u8
     ensures { SearchEntry state.entry.now bytes.now answer.old result answer.new × (state.exit.now ≡ state.entry.now) }
 {
     if answer.len() < SEARCH_ANSWER {
-        return 12;
+        return u32::from(Refusal::Memory);
     }
     match engine::search(state, bytes) {
         Ok(searched) => {
@@ -109,7 +109,7 @@ pub extern "C" fn fennelrake_closeness(
     ensures { ClosenessEntry state.entry.now serial number answer.old result answer.new × (state.exit.now ≡ state.entry.now) }
 {
     if answer.len() < CLOSENESS_ANSWER {
-        return 12;
+        return u32::from(Refusal::Memory);
     }
     match engine::closeness(state, serial, number) {
         Ok(close) => {

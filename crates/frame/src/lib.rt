@@ -46,8 +46,8 @@ pub enum Kind {
     },
 }
 
-// The places of both arrays past the frame's pairs are 0. They are as narrow as their fields allow, since every frame pays for moving them, however few
-// its pairs are.
+// The places of both arrays past the frame's pairs are 0. They are as narrow as their fields allow, and not one array of pairs, which would be a third
+// wider: every frame pays for moving them, however few its pairs are.
 #[derive(Clone, Copy)]
 pub struct Parsed {
     pub what: Kind,

@@ -27,7 +27,7 @@ fn is_past(life: u32, clock: u32, time: u32) -> bool
 }
 
 // The slot after a slot.
-pub fn following(j: usize) -> usize
+fn following(j: usize) -> usize
     requires { j < slots }
     ensures { result ≡ next j }
 {
@@ -46,7 +46,7 @@ pub struct Slots {
 impl Iterator for Slots {
     type Item = usize;
 
-    ghost next_gives = { λ s r t. MatchOption r (s.left ≡ 0) (λ j. (0 < s.left) × (s.at ≡ j) × (t.at ≡ next j) × (t.left ≡ s.left - 1)) };
+    ghost next_gives = { λ s r t. MatchOption r ((s.left ≡ 0) × (t.left ≡ 0)) (λ j. (0 < s.left) × (s.at ≡ j) × (t.at ≡ next j) × (t.left ≡ s.left - 1)) };
 
     ghost remaining = { λ s. at_most s.left };
 

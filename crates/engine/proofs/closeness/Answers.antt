@@ -32,7 +32,7 @@ load_query-requires c =
 pub of-requires : goal.of-requires
 of-requires c =
     let fit = c.load_query.ensures.in_range in
-    (c.in-Some-slot_of.ensures.1, fit.n_most, λ i l. fit.weights_most i (omega (arith, l, fit.n_most)))
+    (c.in-Some-slot_of.ensures.1, λ i l. fit.weights_most i (omega (arith, l, fit.n_most)))
 
 pub returns : goal.returns
 returns c =

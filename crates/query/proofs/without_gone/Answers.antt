@@ -14,10 +14,10 @@ loop-j-preserved c =
 
 pub returns-in-Some-cancelled : goal.returns-in-Some-cancelled
 returns-in-Some-cancelled c =
-    let none : c.loop-j.j-iterator.left ≡ 0 = c.in-None.ensures.steps in
+    let none : c.loop-j.j-iterator.left ≡ 0 = c.in-None.ensures.steps.0 in
     rw c.in-Some-cancelled.is (cancelled_leaves _ c.loop-j.invariant (omega arith) (omega arith) (omega arith) c.removed.ensures)
 
 pub returns-in-None-cancelled : goal.returns-in-None-cancelled
 returns-in-None-cancelled c =
-    let none : c.loop-j.j-iterator.left ≡ 0 = c.in-None.ensures.steps in
+    let none : c.loop-j.j-iterator.left ≡ 0 = c.in-None.ensures.steps.0 in
     rw c.in-None-cancelled.is (none_cancelled _ c.loop-j.invariant (omega arith) (omega arith) (omega arith))

@@ -11,7 +11,7 @@ use Rattle.closeness.proofs.Closeness.of.Goals as goal
 pub divided-requires : goal.divided-requires
 divided-requires c =
     let q = c.args.query in
-    let below = c.requires.2 in
+    let below = c.requires.1 in
     let counts_below : Below q.n (2 ^ count_width) c.counts_in-counts.result = λ i h. omega (arith, c.counts_in-counts.ensures i h) in
     let shared = sum_most 255 q.n q.weights c.counts_in-counts.result below counts_below in
     let squared = sum_most most_weight q.n q.weights q.weights below below in

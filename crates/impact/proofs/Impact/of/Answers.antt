@@ -17,6 +17,12 @@ parts_most c =
     let h : u ≤ reach = unit_most (max c.args.squares 1) u (omega arith) (rw c.max.ensures at c.unit.ensures.0) in
     mul-le-mul {n₂ = 255} {m₂ = reach} (omega arith) h
 
+pub returns : goal.returns
+returns c =
+    let s = c.args in
+    let b = between s.count s.squares c.unit.result (omega arith) c.max.ensures c.unit.ensures c.place_of-low.ensures c.place_of-high.ensures in
+    le_antisymm b.0 (le_trans b.1 (omega arith))
+
 pub overflow_mul-parts : goal.overflow_mul-parts
 overflow_mul-parts c = let h = parts_most c in search rules
 
@@ -38,9 +44,3 @@ returns-then-low-high c =
     let b = between s.count s.squares c.unit.result (omega arith) c.max.ensures c.unit.ensures c.place_of-low.ensures c.place_of-high.ensures in
     let r = place-requires c.before in
     place_found _ _ _ _ _ (omega arith) c.most_square-most.ensures r.1 b.1 c.place.ensures
-
-pub returns : goal.returns
-returns c =
-    let s = c.args in
-    let b = between s.count s.squares c.unit.result (omega arith) c.max.ensures c.unit.ensures c.place_of-low.ensures c.place_of-high.ensures in
-    le_antisymm b.0 (le_trans b.1 (omega arith))
