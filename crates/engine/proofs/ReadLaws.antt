@@ -6,6 +6,7 @@ use mathlib.Core.Path.{◌≡◌, refl, sym, ap, ◌∙◌, subst}
 use mathlib.Core.List.{List, [], ◌∷◌}
 use lib.ListN.{length, get_or, take}
 use lib.Dec.{lit≤}
+use Rattle.std.specs.Prelude.{Ok}
 use Rattle.paper.specs.Frame.{Pair, Frame, Shape, AllFit, Pairs, level, urgency_of, grade_of, most_in, shape}
 use Rattle.paper.specs.Frame.{count_width, weight_width, term_width, most_pairs, most_terms, most_listed, numbers}
 use lib.Seq.{get_or-take}
@@ -79,7 +80,7 @@ urged (cancel t s) = tt
 module _ (bytes : List ℕ) (r : Parsed) (post : ReadFrame (shape bytes) r) where
   -- bytes that are answered with k are the frame that k tells
   pub read_as : (k : Kind) → r.what ≡ k → shape bytes ≡ accepted (told k r.terms r.amounts)
-  read_as k e = sym (read_told bytes r post) ∙ ap (λ (x : Kind). accepted (told x r.terms r.amounts)) e
+  read_as k e = sym (read_told bytes (Ok r) post) ∙ ap (λ (x : Kind). accepted (told x r.terms r.amounts)) e
 
   -- and have as many pairs as k says
   read_count : (k : Kind) → r.what ≡ k → count_in k ≡ length (pairs_in (told k r.terms r.amounts))

@@ -3,11 +3,13 @@ use Prim.Native.Nat.{ℕ}
 use native.Mathlib.Omega.{arith}
 use mathlib.Core.Path.{◌≡◌, refl, sym, ap, ◌∙◌}
 use mathlib.Core.Bool.{Bool, true, false, cond}
+use mathlib.Core.Logic.{⊎_elim}
 use mathlib.Core.List.{List, map}
 use mathlib.Core.Option.{some}
 use lib.ListN.{length}
 use lib.Dec.{eqb, ltb}
 use borrow.Author.Tests.{eqb-true}
+use Rattle.std.specs.Prelude.{Ok}
 use Rattle.wire.specs.Field.{field, total}
 use Rattle.paper.specs.Frame.{Pair, Frame, Shape, row_of, widths, values_at, pairs_by, grades_known, known, frame_of, shape_of_kind, shape, pairs_at}
 use Rattle.paper.specs.Frame.{kind_width, most_pairs}
@@ -17,7 +19,7 @@ use Rattle.paper.specs.Write.{side_by_side, pairs_in}
 use Rattle.paper.specs.Rank.{Query}
 use Rattle.paper.specs.Search.{asked, refusal_of, query_in}
 use Rattle.paper.specs.Sound.{Terms}
-use Rattle.paper.proofs.FrameLaws.{by_test, or_refused, shape_valid}
+use Rattle.paper.proofs.FrameLaws.{by_test, or_refused, shape_number, shape_valid}
 use Rattle.frame.specs.declared.Kind.{Kind}
 use Rattle.frame.specs.declared.Kind.TheVariants.{Message, Tick, Register, Unregister, Cancel}
 use Rattle.frame.specs.declared.Parsed.{Parsed}
@@ -83,7 +85,7 @@ module _ (s : List ℕ) where
 
   module _ (p : Parsed) (post : ReadFrame (shape s) p) where
     asked_told : (what : Kind) → p.what ≡ what → asked s ≡ asked_of (asked_number s) (accepted (told what p.terms p.amounts))
-    asked_told what e = rw (asked_shape s, ← read_told s p post, e)
+    asked_told what e = rw (asked_shape s, ← read_told s (Ok p) post, e)
 
     pub asked_other : ((t n k m : ℕ) → p.what ≡ Register t n k m → ⊥) → asked s ≡ refused 2
     asked_other not_register = asked_told p.what refl ∙ go p.what not_register
@@ -100,7 +102,7 @@ module _ (s : List ℕ) where
         → AskedQuery (asked s) (record { k = k; n = m; terms = p.terms; weights = p.amounts })
     asked_register t n k m e =
         let ps : List Pair = side_by_side m p.terms p.amounts in
-        let told_as : accepted (told p.what p.terms p.amounts) ≡ accepted post.frame = read_told s p post ∙ post.is in
+        let told_as : accepted (told p.what p.terms p.amounts) ≡ accepted post.frame = read_told s (Ok p) post ∙ post.is in
         let same : accepted (register t n k ps) ≡ accepted post.frame = rw e at told_as in
         let pairs : pairs_in post.frame ≡ ps = in_frame _ _ (sym same) in
         record {
@@ -117,19 +119,46 @@ module _ (s : List ℕ) where
 
 -- ---- what is asked for where nothing refuses it
 
-asked_valid : (s : List ℕ) (q : Query) → query_in (asked s) ≡ some q → (refusal_of (asked s) ≡ 0) × Terms q
-asked_valid s q is = rw (asked_shape s) (go (shape s) refl (rw (asked_shape s) at is))
+-- a refusal stays one
+refused_still : (s : List ℕ) (r : ℕ) → asked_number s r ≡ 0 → r ≡ 0
+unfolding asked_number
+refused_still s r = by_two (ltb (length s) 5) (eqb (field s 0 kind_width) 3)
   where
-    go : (x : Shape) → shape s ≡ x → query_in (asked_of (asked_number s) x) ≡ some q → (refusal_of (asked_of (asked_number s) x) ≡ 0) × Terms q
-    go (refused r) e is = absurd cc
-    go (accepted (message t n g ps)) e is = absurd cc
-    go (accepted (tick t)) e is = absurd cc
-    go (accepted (register t n k ps)) e is =
+    by_two : (short three : Bool) → cond short r (cond three r 2) ≡ 0 → r ≡ 0
+    by_two true three z = z
+    by_two false true z = z
+    by_two false false z = absurd (omega arith)
+
+-- a search that isn't refused has a query
+asked_valid : (s : List ℕ) → refusal_of (asked s) ≡ 0 → (q : Query) × (query_in (asked s) ≡ some q) × Terms q
+asked_valid s z = rw (asked_shape s) (go (shape s) refl (rw (asked_shape s) at z))
+  where
+    go : (x : Shape) → shape s ≡ x → refusal_of (asked_of (asked_number s) x) ≡ 0 → (q : Query) × (query_in (asked_of (asked_number s) x) ≡ some q) × Terms q
+    go (refused r) e z =
+        let none = refused_still s r z in
+        absurd (⊎_elim (λ l. omega arith) (λ f. omega arith) (shape_number s r e))
+    go (accepted (message t n g ps)) e z = absurd (omega arith)
+    go (accepted (tick t)) e z = absurd (omega arith)
+    go (accepted (register t n k ps)) e z =
         let v = shape_valid s (register t n k ps) e in
-        let same : record { k = k; terms = ps } ≡ q = cc in
-        (refl, rw (← same) (record { k_least = v.k_least; k_most = v.k_most; terms = v.terms }))
-    go (accepted (unregister t n)) e is = absurd cc
-    go (accepted (cancel t n)) e is = absurd cc
+        (record { k = k; terms = ps }, refl, record { k_least = v.k_least; k_most = v.k_most; terms = v.terms })
+    go (accepted (unregister t n)) e z = absurd (omega arith)
+    go (accepted (cancel t n)) e z = absurd (omega arith)
+
+-- and one that has a query isn't refused
+query_valid : (s : List ℕ) (q : Query) → query_in (asked s) ≡ some q → (refusal_of (asked s) ≡ 0) × Terms q
+query_valid s q is =
+    let free : refusal_of (asked s) ≡ 0 = free_of (asked s) is in
+    let v = asked_valid s free in
+    let same : v.0 ≡ q = some_same (sym v.1 ∙ is) in
+    (free, rw same at v.2)
+  where
+    free_of : (x : Shape) → query_in x ≡ some q → refusal_of x ≡ 0
+    free_of (refused r) h = absurd cc
+    free_of (accepted f) h = refl
+
+    some_same : {p : Query} → some p ≡ some q → p ≡ q
+    some_same h = cc
 
 -- the answer holds a query within its ranges, its pairs in two arrays
 pub record Question (s : List ℕ) (r : Asked) : Type 0 where
@@ -146,7 +175,7 @@ pub record Question (s : List ℕ) (r : Asked) : Type 0 where
 pub question : (s : List ℕ) (r : Asked) → AskedQuery (asked s) r → Question s r
 question s r post =
     let q = post.query in
-    let v = asked_valid s q post.is in
+    let v = query_valid s q post.is in
     record {
       free = v.0;
       query = q;

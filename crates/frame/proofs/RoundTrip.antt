@@ -103,9 +103,15 @@ told_frame (register t n k ps) h = ap (λ (l : List Pair). register t n k l) (be
 told_frame (unregister t n) h = refl
 told_frame (cancel t s) h = refl
 
+-- what an answer says, a refusal too
+abbrev pub told_shape : Result Parsed Refusal → Shape
+told_shape (Ok r) = accepted (told r.what r.terms r.amounts)
+told_shape (Err e) = refused (number_of e)
+
 -- the answer to bytes says their shape
-pub read_told : (bytes : List ℕ) (r : Parsed) → ReadFrame (shape bytes) r → accepted (told r.what r.terms r.amounts) ≡ shape bytes
-read_told bytes r post =
+pub read_told : (bytes : List ℕ) (r : Result Parsed Refusal) → ReadPost (shape bytes) r → told_shape r ≡ shape bytes
+read_told bytes (Err e) post = sym post
+read_told bytes (Ok r) post =
     rw (post.what, post.terms, post.amounts)
     (ap accepted (told_frame post.frame (pairs_most post.frame (shape_valid bytes post.frame post.is))) ∙ sym post.is)
 

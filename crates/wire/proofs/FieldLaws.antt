@@ -5,7 +5,7 @@ use native.Mathlib.Nat.{suc-add, lt_of_lt_of_le, not-suc-le-zero}
 use native.Mathlib.Omega.{arith}
 use mathlib.Core.Bool.{Bool}
 use mathlib.Core.List.{List, [], ◌∷◌, ◌++◌, append_assoc}
-use lib.ListN.{length, take, drop, length-append, length-take}
+use lib.ListN.{length, take, drop, length-append, length-take, length-drop}
 use lib.Seq.{take_at, drop_at, length-take-le, drop-drop, take-take}
 use lib.Pow.{pow_mono}
 use Rattle.wire.specs.Bits.{bits, num, unpack}
@@ -46,6 +46,16 @@ module _ (s t : List ℕ) (at w v : ℕ) (fits : at + w ≤ 8 * length s) (is : 
   pub placed_drop : drop (at + w) (unpack t) ≡ drop (at + w) (unpack s)
   unfolding placed
   placed_drop = rw is (drop_at (take at (unpack s) ++ bits w v) (drop (at + w) (unpack s)) (at + w) front_length)
+
+  -- t is as long as s
+  pub placed_length : length t ≡ length s
+  unfolding placed
+  placed_length =
+      let e : length (unpack t) ≡ 8 * length s =
+      ap length is ∙ length-append (take at (unpack s) ++ bits w v) (drop (at + w) (unpack s))
+      ∙ ap₂ (λ (x y : ℕ). x + y) front_length (length-drop (at + w) (unpack s) ∙ ap (λ (n : ℕ). n - (at + w)) (length_unpack s))
+      ∙ omega arith in
+      omega (arith, length_unpack t)
 
   -- what was written is read back
   pub read_back : v < 2 ^ w → field t at w ≡ v
